@@ -1,0 +1,4 @@
+pub mod Layout
+pub mod Table
+pub mod Jobs
+pub mod Examples
