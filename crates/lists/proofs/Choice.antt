@@ -2,7 +2,7 @@
 use mathlib.Core.Bool.{Bool, true, false, not, cond, _&&_}
 use mathlib.Core.List.{List, [], _∷_}
 use mathlib.Core.Path.{_≡_, refl, ap₂}
-use Prim.Native.Nat.{ℕ, zero, suc, _≤_}
+use Prim.Native.Nat.{ℕ, zero, suc, _≤_, _<_}
 use native.Mathlib.Decide.{ℕ-discrete}
 use native.Mathlib.Omega.{arith}
 use lib.Dec.{T, leb, leb→le, le→leb}
@@ -106,3 +106,13 @@ inside-high n i t = leb→le i n (and-right (leb 1 i) (leb i n) t)
 
 pub in-inside : (n i : ℕ) → 1 ≤ i → i ≤ n → T (inside n i)
 in-inside n i low high = both (leb 1 i) (leb i n) (le→leb 1 i low) (le→leb i n high)
+
+-- ---- a number behind a test: 0 only where the test holds
+
+pub passed : (b : Bool) (x k : ℕ) → 0 < k → cond b x k ≡ 0 → T b × (x ≡ 0)
+passed true x k h e = (tt, e)
+passed false x k h e = absurd (omega arith)
+
+pub passes : (b : Bool) (x k : ℕ) → T b → x ≡ 0 → cond b x k ≡ 0
+passes true x k t e = e
+passes false x k t e = absurd t

@@ -1,1 +1,4 @@
 pub mod Names
+pub mod Records
+pub mod Range
+pub mod Acceptance

@@ -1,2 +1,5 @@
 pub mod Examples
 pub mod Places
+pub mod View
+pub mod Accepts
+pub mod Bridge

@@ -1,4 +1,5 @@
 pub mod Layout
 pub mod Table
 pub mod Jobs
+pub mod Applies
 pub mod Examples
