@@ -76,162 +76,137 @@ pub record Rule : Type 0 where
   -- what an accepted event writes
   pub writes : Writes
 
-module _ (n : Counts) (s : State) where
-  -- 1. Phase must be 0. Phase 1, attempt 1, request kept; the request is sent to server 1.
-  abbrev pub issueRule : ℕ → ℕ → Rule
-  issueRule c v = record {
-    sentIf = [];
-    must = eqb (s (phase c)) 0 ∷ [];
-    writes = (phase c, 1) ∷ (attempt c, 1) ∷ (request c, v) ∷ inRow c 1 (calls (rowOf s c 1));
-  }
+-- a rule that asks and writes the row of one result alone
+pub record RowRule : Type 0 where
+  pub sentIf : List Bool
+  pub must : List Bool
+  pub writes : RowWrites
 
-  -- 2. Phase must be 1. The current attempt's request is sent to every server.
-  abbrev pub timeoutRule : ℕ → Rule
-  timeoutRule c = record {
-    sentIf = [];
-    must = eqb (s (phase c)) 1 ∷ [];
-    writes = inRow c (s (attempt c)) ((sent, all (n .servers)) ∷ []);
-  }
+abbrev pub atResult : ℕ → ℕ → RowRule → Rule
+atResult c k rule = record { sentIf = rule .sentIf; must = rule .must; writes = inRow c k (rule .writes) }
 
-  -- 3. Sent if the server's bit is in the row. If owner is 0, owner becomes this server. Otherwise no change, also for the owner itself.
-  abbrev pub requestRule : ℕ → ℕ → ℕ → Rule
-  requestRule c k i = record {
-    sentIf = has (s (row c k sent)) i ∷ [];
-    must = [];
-    writes = inRow c k (claims i (rowOf s c k));
-  }
+-- 1. Phase must be 0. Phase 1, attempt 1, request kept; the request is sent to server 1.
+abbrev pub issueRule : State → ℕ → ℕ → Rule
+issueRule s c v = record {
+  sentIf = [];
+  must = eqb (s (phase c)) 0 ∷ [];
+  writes = (phase c, 1) ∷ (attempt c, 1) ∷ (request c, v) ∷ inRow c 1 (calls (rowOf s c 1));
+}
 
-  -- 4. The server must be owner and computed 0. Computed becomes the value; prepare is now sent to all databases.
-  abbrev pub computeRule : ℕ → ℕ → ℕ → ℕ → Rule
-  computeRule c k i v = record {
-    sentIf = [];
-    must = eqb (s (row c k owner)) i ∷ eqb (s (row c k computed)) 0 ∷ [];
-    writes = inRow c k ((computed, v) ∷ []);
-  }
+-- 2. Phase must be 1. The current attempt's request is sent to every server.
+abbrev pub timeoutRule : Counts → State → ℕ → Rule
+timeoutRule n s c = record {
+  sentIf = [];
+  must = eqb (s (phase c)) 1 ∷ [];
+  writes = inRow c (s (attempt c)) ((sent, all (n .servers)) ∷ []);
+}
 
-  -- 5. Sent if computed is not 0. If the database has not voted, it votes: no if it has already decided this result, else as the event says.
-  abbrev pub prepareRule : ℕ → ℕ → ℕ → ℕ → Rule
-  prepareRule c k d v = record {
-    sentIf = ltb 0 (s (row c k computed)) ∷ [];
-    must = [];
-    writes = inRow c k (votes d (eqb v 1) (rowOf s c k));
-  }
+-- 3. Sent if the server's bit is in the row. If owner is 0, owner becomes this server. Otherwise no change, also for the owner itself.
+abbrev pub requestRule : ℕ → Row → RowRule
+requestRule i r = record { sentIf = has (r sent) i ∷ []; must = []; writes = claims i r }
 
-  -- 6. Sent if the server is owner and the database has voted. If computed is not 0, written is 0 and the database is unheard, it is heard, as yes or not.
-  abbrev pub voteRule : ℕ → ℕ → ℕ → ℕ → Rule
-  voteRule c k i d = record {
-    sentIf = eqb (s (row c k owner)) i ∷ has (s (row c k voted)) d ∷ [];
-    must = [];
-    writes = inRow c k (hears (listens d (rowOf s c k)) d (has (s (row c k votedYes)) d) (rowOf s c k));
-  }
+-- 4. The server must be owner and computed 0. Computed becomes the value; prepare is now sent to all databases.
+abbrev pub computeRule : ℕ → ℕ → Row → RowRule
+computeRule i v r = record { sentIf = []; must = eqb (r owner) i ∷ eqb (r computed) 0 ∷ []; writes = (computed, v) ∷ [] }
 
-  -- 7. Sent if the database's ready cell is 1. Under the condition of 6, and only at the owner, the database is heard, not as yes.
-  abbrev pub readyRule : ℕ → ℕ → ℕ → ℕ → Rule
-  readyRule c k i d = record {
-    sentIf = eqb (s (ready d)) 1 ∷ [];
-    must = [];
-    writes = inRow c k (hears (eqb (s (row c k owner)) i && listens d (rowOf s c k)) d false (rowOf s c k));
-  }
+-- 5. Sent if computed is not 0. If the database has not voted, it votes: no if it has already decided this result, else as the event says.
+abbrev pub prepareRule : ℕ → ℕ → Row → RowRule
+prepareRule d v r = record { sentIf = ltb 0 (r computed) ∷ []; must = []; writes = votes d (eqb v 1) r }
 
-  -- 8. The server must be owner, computed not 0, written 0, all D heard. It offers commit with the computed value if the number heard as yes is D,
-  -- else abort with value 0. If the register is empty it takes the offer; where it was already written, the writer goes on with what it holds.
-  -- Written becomes 1, the server is terminating, decide is sent to all databases.
-  abbrev pub writeRule : ℕ → ℕ → ℕ → Rule
-  writeRule c k i = record {
-    sentIf = [];
-    must = eqb (s (row c k owner)) i ∷ ltb 0 (s (row c k computed)) ∷ eqb (s (row c k written)) 0 ∷ hasAll (n .databases) (s (row c k heard)) ∷ [];
-    writes = inRow c k (offers (verdict (n .databases) (rowOf s c k)) (rowOf s c k) ((written, 1) ∷ terminates i (rowOf s c k)));
-  }
+-- 6. Sent if the server is owner and the database has voted. If computed is not 0, written is 0 and the database is unheard, it is heard, as yes or not.
+abbrev pub voteRule : ℕ → ℕ → Row → RowRule
+voteRule i d r = record {
+  sentIf = eqb (r owner) i ∷ has (r voted) d ∷ [];
+  must = [];
+  writes = hears (listens d r) d (has (r votedYes) d) r;
+}
 
-  -- 9. A server may not name itself. The bit is set.
-  abbrev pub suspectRule : ℕ → ℕ → Rule
-  suspectRule i o = record {
-    sentIf = [];
-    must = not (eqb i o) ∷ [];
-    writes = (suspects i, with (s (suspects i)) o) ∷ [];
-  }
+-- 7. Sent if the database's ready cell is 1. Under the condition of 6, and only at the owner, the database is heard, not as yes.
+abbrev pub readyRule : ℕ → ℕ → ℕ → Row → RowRule
+readyRule i d isReady r = record {
+  sentIf = eqb isReady 1 ∷ [];
+  must = [];
+  writes = hears (eqb (r owner) i && listens d r) d false r;
+}
 
-  -- 10. A server may not name itself. The bit is cleared.
-  abbrev pub trustRule : ℕ → ℕ → Rule
-  trustRule i o = record {
-    sentIf = [];
-    must = not (eqb i o) ∷ [];
-    writes = (suspects i, without (s (suspects i)) o) ∷ [];
-  }
+-- 8. The server must be owner, computed not 0, written 0, all D heard. It offers commit with the computed value if the number heard as yes is D,
+-- else abort with value 0. If the register is empty it takes the offer; where it was already written, the writer goes on with what it holds.
+-- Written becomes 1, the server is terminating, decide is sent to all databases.
+abbrev pub writeRule : ℕ → ℕ → Row → RowRule
+writeRule D i r = record {
+  sentIf = [];
+  must = eqb (r owner) i ∷ ltb 0 (r computed) ∷ eqb (r written) 0 ∷ hasAll D (r heard) ∷ [];
+  writes = offers (verdict D r) r ((written, 1) ∷ terminates i r);
+}
 
-  -- 11. Owner must not be 0 or this server, and must be suspected by it. Abort with 0 is offered to the register as in 8; this server is terminating.
-  abbrev pub cleanRule : ℕ → ℕ → ℕ → Rule
-  cleanRule c k i = record {
-    sentIf = [];
-    must = ltb 0 (s (row c k owner)) ∷ not (eqb (s (row c k owner)) i) ∷ has (s (suspects i)) (s (row c k owner)) ∷ [];
-    writes = inRow c k (offers Abort (rowOf s c k) (terminates i (rowOf s c k)));
-  }
+-- 9. A server may not name itself. The bit is set.
+abbrev pub suspectRule : State → ℕ → ℕ → Rule
+suspectRule s i o = record { sentIf = []; must = not (eqb i o) ∷ []; writes = (suspects i, with (s (suspects i)) o) ∷ [] }
 
-  -- 12. Sent if the sender is terminating and outcome is not 0. An undecided database decides by the outcome. The acknowledgement to that sender is
-  -- sent in any case. The sender may be down.
-  abbrev pub decideRule : ℕ → ℕ → ℕ → ℕ → Rule
-  decideRule c k i d = record {
-    sentIf = has (s (row c k terminating)) i ∷ ltb 0 (s (row c k outcome)) ∷ [];
-    must = [];
-    writes = inRow c k (decides i d (rowOf s c k));
-  }
+-- 10. A server may not name itself. The bit is cleared.
+abbrev pub trustRule : State → ℕ → ℕ → Rule
+trustRule s i o = record { sentIf = []; must = not (eqb i o) ∷ []; writes = (suspects i, without (s (suspects i)) o) ∷ [] }
 
-  -- 13. Sent if its bit is set. The server knows it.
-  abbrev pub ackRule : ℕ → ℕ → ℕ → ℕ → Rule
-  ackRule c k i d = record {
-    sentIf = has (s (row c k (acked i))) d ∷ [];
-    must = [];
-    writes = inRow c k (knows i d (rowOf s c k));
-  }
+-- 11. Owner must not be 0 or this server, and must be suspected by it. Abort with 0 is offered to the register as in 8; this server is terminating.
+abbrev pub cleanRule : ℕ → ℕ → Row → RowRule
+cleanRule i suspected r = record {
+  sentIf = [];
+  must = ltb 0 (r owner) ∷ not (eqb (r owner) i) ∷ has suspected (r owner) ∷ [];
+  writes = offers Abort r (terminates i r);
+}
 
-  -- 14. Sent if outcome is not 0 and the sender knows all D acknowledgements. If phase is 1 and the attempt is the current one: commit gives phase 2
-  -- and the value is delivered; abort gives the next attempt, its request sent to server 1, or phase 3 if the attempt was N.
-  abbrev pub resultRule : ℕ → ℕ → ℕ → Rule
-  resultRule c k i = record {
-    sentIf = ltb 0 (s (row c k outcome)) ∷ hasAll (n .databases) (s (row c k (known i))) ∷ [];
-    must = [];
-    writes = cond (eqb (s (phase c)) 1 && eqb (s (attempt c)) k)
-        (cond (eqb (s (row c k outcome)) 1)
-        ((phase c, 2) ∷ (delivered c, s (row c k value)) ∷ [])
-        (cond (eqb k (n .attempts)) ((phase c, 3) ∷ []) ((attempt c, suc k) ∷ inRow c (suc k) (calls (rowOf s c (suc k))))))
-        [];
-  }
+-- 12. Sent if the sender is terminating and outcome is not 0. An undecided database decides by the outcome. The acknowledgement to that sender is
+-- sent in any case. The sender may be down.
+abbrev pub decideRule : ℕ → ℕ → Row → RowRule
+decideRule i d r = record { sentIf = has (r terminating) i ∷ ltb 0 (r outcome) ∷ []; must = []; writes = decides i d r }
 
-  -- 15 to 17. Up becomes 0, nothing else changes.
-  abbrev pub serverCrashRule : ℕ → Rule
-  serverCrashRule i = record { sentIf = []; must = []; writes = (serverUp i, 0) ∷ [] }
+-- 13. Sent if its bit is set. The server knows it.
+abbrev pub ackRule : ℕ → ℕ → Row → RowRule
+ackRule i d r = record { sentIf = has (r (acked i)) d ∷ []; must = []; writes = knows i d r }
 
-  abbrev pub databaseCrashRule : ℕ → Rule
-  databaseCrashRule d = record { sentIf = []; must = []; writes = (databaseUp d, 0) ∷ [] }
+-- 14. Sent if outcome is not 0 and the sender knows all D acknowledgements. If phase is 1 and the attempt is the current one: commit gives phase 2
+-- and the value is delivered; abort gives the next attempt, its request sent to server 1, or phase 3 if the attempt was N.
+abbrev pub resultRule : Counts → State → ℕ → ℕ → ℕ → Rule
+resultRule n s c k i = record {
+  sentIf = ltb 0 (s (row c k outcome)) ∷ hasAll (n .databases) (s (row c k (known i))) ∷ [];
+  must = [];
+  writes = cond (eqb (s (phase c)) 1 && eqb (s (attempt c)) k)
+      (cond (eqb (s (row c k outcome)) 1)
+      ((phase c, 2) ∷ (delivered c, s (row c k value)) ∷ [])
+      (cond (eqb k (n .attempts)) ((phase c, 3) ∷ []) ((attempt c, suc k) ∷ inRow c (suc k) (calls (rowOf s c (suc k))))))
+      [];
+}
 
-  abbrev pub clientCrashRule : ℕ → Rule
-  clientCrashRule c = record { sentIf = []; must = []; writes = (clientUp c, 0) ∷ [] }
+-- 15 to 17. Up becomes 0, nothing else changes.
+abbrev pub serverCrashRule : ℕ → Rule
+serverCrashRule i = record { sentIf = []; must = []; writes = (serverUp i, 0) ∷ [] }
 
-  -- 18. Up and ready become 1. On a database that is up it gives 7.
-  abbrev pub recoverRule : ℕ → Rule
-  recoverRule d = record {
-    sentIf = [];
-    must = eqb (s (databaseUp d)) 0 ∷ [];
-    writes = (databaseUp d, 1) ∷ (ready d, 1) ∷ [];
-  }
+abbrev pub databaseCrashRule : ℕ → Rule
+databaseCrashRule d = record { sentIf = []; must = []; writes = (databaseUp d, 0) ∷ [] }
 
-  abbrev pub rule : Event → Rule
-  rule (issue c v) = issueRule c v
-  rule (timeout c) = timeoutRule c
-  rule (request-arrives c k i) = requestRule c k i
-  rule (compute c k i v) = computeRule c k i v
-  rule (prepare-arrives c k d v) = prepareRule c k d v
-  rule (vote-arrives c k i d) = voteRule c k i d
-  rule (ready-arrives c k i d) = readyRule c k i d
-  rule (write c k i) = writeRule c k i
-  rule (suspect i o) = suspectRule i o
-  rule (trust i o) = trustRule i o
-  rule (clean c k i) = cleanRule c k i
-  rule (decide-arrives c k i d) = decideRule c k i d
-  rule (ack-arrives c k i d) = ackRule c k i d
-  rule (result-arrives c k i) = resultRule c k i
-  rule (server-crashes i) = serverCrashRule i
-  rule (database-crashes d) = databaseCrashRule d
-  rule (client-crashes c) = clientCrashRule c
-  rule (database-recovers d) = recoverRule d
+abbrev pub clientCrashRule : ℕ → Rule
+clientCrashRule c = record { sentIf = []; must = []; writes = (clientUp c, 0) ∷ [] }
 
+-- 18. Up and ready become 1. On a database that is up it gives 7.
+abbrev pub recoverRule : State → ℕ → Rule
+recoverRule s d = record { sentIf = []; must = eqb (s (databaseUp d)) 0 ∷ []; writes = (databaseUp d, 1) ∷ (ready d, 1) ∷ [] }
+
+abbrev pub rule : Counts → State → Event → Rule
+rule n s (issue c v) = issueRule s c v
+rule n s (timeout c) = timeoutRule n s c
+rule n s (request-arrives c k i) = atResult c k (requestRule i (rowOf s c k))
+rule n s (compute c k i v) = atResult c k (computeRule i v (rowOf s c k))
+rule n s (prepare-arrives c k d v) = atResult c k (prepareRule d v (rowOf s c k))
+rule n s (vote-arrives c k i d) = atResult c k (voteRule i d (rowOf s c k))
+rule n s (ready-arrives c k i d) = atResult c k (readyRule i d (s (ready d)) (rowOf s c k))
+rule n s (write c k i) = atResult c k (writeRule (n .databases) i (rowOf s c k))
+rule n s (suspect i o) = suspectRule s i o
+rule n s (trust i o) = trustRule s i o
+rule n s (clean c k i) = atResult c k (cleanRule i (s (suspects i)) (rowOf s c k))
+rule n s (decide-arrives c k i d) = atResult c k (decideRule i d (rowOf s c k))
+rule n s (ack-arrives c k i d) = atResult c k (ackRule i d (rowOf s c k))
+rule n s (result-arrives c k i) = resultRule n s c k i
+rule n s (server-crashes i) = serverCrashRule i
+rule n s (database-crashes d) = databaseCrashRule d
+rule n s (client-crashes c) = clientCrashRule c
+rule n s (database-recovers d) = recoverRule s d

@@ -3,3 +3,4 @@ pub mod Places
 pub mod View
 pub mod Accepts
 pub mod Bridge
+pub mod Lent
