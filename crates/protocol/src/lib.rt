@@ -17,3 +17,15 @@ pub struct Event {
     pub database: u16,
     pub value: u16,
 }
+
+// What the engine answers: accepted, or why an event or a setup was refused.
+pub enum Answer {
+    Accepted,
+    WrongSize,
+    OutOfRange,
+    UnknownKind,
+    WrongField,
+    PartyDown,
+    NotSent,
+    MustNot,
+}

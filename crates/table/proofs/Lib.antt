@@ -4,3 +4,5 @@ pub mod View
 pub mod Accepts
 pub mod Bridge
 pub mod Lent
+pub mod Fresh
+pub mod Soundness

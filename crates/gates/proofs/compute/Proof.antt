@@ -1,0 +1,17 @@
+use borrow.Author.Tests.{eq-eqb, ne-eqb}
+use Rattle.gates.proofs.compute.Statement.{statement}
+use Rattle.gates.proofs.compute.Tie as tie
+use Rattle.gates.proofs.compute.Reads as reads
+use Rattle.gates.proofs.compute.Lts as lts
+
+returns : tie.Need-returns
+returns c = rw (ne-eqb _ _ (c .if1 .taken))
+
+returns-2 : tie.Need-returns-2
+returns-2 c = rw (eq-eqb _ _ (c .before .before .if1 .left), ne-eqb _ _ (c .if2 .taken))
+
+returns-3 : tie.Need-returns-3
+returns-3 c = rw (eq-eqb _ _ (c .before .before .if1 .left), eq-eqb _ _ (c .if2 .left))
+
+pub compute-spec : {M : Type 1} → statement M
+compute-spec = tie.close (tie.spec returns returns-2 returns-3)

@@ -1,0 +1,19 @@
+use mathlib.Core.Path.{sym, _∙_}
+use borrow.Author.Needs.{needs}
+use Rattle.gates.proofs.request.Statement.{statement}
+use Rattle.gates.proofs.request.Tie as tie
+use Rattle.gates.proofs.request.Reads as reads
+use Rattle.gates.proofs.request.Lts as lts
+use Rattle.masks.proofs.has.Reads as has-reads
+
+has-requires : tie.Need-has-requires
+has-requires c κs = search needs
+
+returns : tie.Need-returns
+returns c = rw (sym (c .before .has .ensures) ∙ c .if1 .taken)
+
+returns-2 : tie.Need-returns-2
+returns-2 c = rw (sym (c .before .has .ensures) ∙ c .if1 .left)
+
+pub request-spec : {M : Type 1} → statement M
+request-spec = tie.close (tie.spec has-requires returns returns-2)

@@ -1,0 +1,66 @@
+-- The five field tests of a record whose kind is known, by the limits of its kind.
+use mathlib.Core.Path.{_≡_, refl, sym, ap, _∙_}
+use mathlib.Core.Bool.{Bool, true, false, _&&_}
+use mathlib.Core.List.{List, [], _∷_, map}
+use mathlib.Core.Option.{Option, none, some, Option·none-ne-some, Option·some-injective}
+use Prim.Native.Nat.{ℕ, zero, suc, _-_, _≤_}
+use native.Mathlib.Omega.{arith}
+use lib.Dec.{leb}
+use lib.ListN.{getD, getElem?}
+use borrow.Author.Tests.{le-leb}
+use Rattle.lists.specs.Tests.{every, inside}
+use Rattle.lists.proofs.Choice.{in-inside}
+use Rattle.protocol.specs.declared.Counts.{Counts}
+use Rattle.protocol.specs.declared.Event.{Event}
+use Rattle.protocol.specs.Events.{Kind, kinds, kindOf, largest, fits}
+use Rattle.protocol.specs.Numbers.{fieldTests, fields}
+use Rattle.protocol.proofs.Records.{kind-known}
+use Rattle.kinds.specs.Limits.{limitsOf, limitOf}
+
+-- the limits of a line of a table of kinds
+line-limits : (lines : List Kind) (i : ℕ) (kind : Kind) → getElem? lines i ≡ some kind → getD (map limitsOf lines) i [] ≡ limitsOf kind
+line-limits [] i kind e = absurd (Option·none-ne-some kind e)
+line-limits (line ∷ lines) zero kind e = ap limitsOf (Option·some-injective line kind e)
+line-limits (line ∷ lines) (suc i) kind e = line-limits lines i kind e
+
+limits-at : (k : ℕ) (kind : Kind) → kindOf k ≡ some kind → getD (map limitsOf kinds) (k - 1) [] ≡ limitsOf kind
+limits-at zero kind e = absurd (Option·none-ne-some kind e)
+limits-at (suc i) kind e = let d : suc i - 1 ≡ i = omega arith in rw d (line-limits kinds i kind e)
+
+abbrev pub limited : Counts → Event → List Bool
+limited n e =
+    fits n (limitOf (e .kind) 0) (e .client)
+    ∷ fits n (limitOf (e .kind) 1) (e .attempt)
+    ∷ fits n (limitOf (e .kind) 2) (e .server)
+    ∷ fits n (limitOf (e .kind) 3) (e .database)
+    ∷ fits n (limitOf (e .kind) 4) (e .value)
+    ∷ []
+
+pub fields-limited : (n : Counts) (e : Event) → 1 ≤ e .kind → e .kind ≤ 18 → every (fields n e) ≡ every (limited n e)
+unfolding limitOf
+fields-limited n e low high =
+    let known = kind-known (e .kind) (in-inside 18 (e .kind) low high) in
+    ap (λ k. every (fieldTests n k e)) (known .1)
+    ∙ ap (λ limits. every (fits n (getD limits 0 0) (e .client) ∷ fits n (getD limits 1 0) (e .attempt) ∷ fits n (getD limits 2 0) (e .server) ∷ fits n (getD limits 3 0) (e .database) ∷ fits n (getD limits 4 0) (e .value) ∷ []))
+    (sym (limits-at (e .kind) (known .0) (known .1)))
+
+pub and-true : (b : Bool) → (b && true) ≡ b
+and-true true = refl
+and-true false = refl
+
+-- a field that is used: not 0, and at most its largest value
+pub zero-outside : (most field : ℕ) → field ≡ 0 → inside most field ≡ false
+zero-outside most field e = ap (λ x. leb 1 x && leb x most) e
+
+pub inside-most : (most field : ℕ) → (field ≡ 0 → ⊥) → inside most field ≡ leb field most
+inside-most most field ne = rw (le-leb 1 field (omega (arith, ne)))
+
+-- every limit behind the first six is that of yes or no
+pub largest-rest : (n : Counts) (limit : ℕ) → 6 ≤ limit → largest n limit ≡ 2
+largest-rest n zero h = absurd (omega arith)
+largest-rest n (suc zero) h = absurd (omega arith)
+largest-rest n (suc (suc zero)) h = absurd (omega arith)
+largest-rest n (suc (suc (suc zero))) h = absurd (omega arith)
+largest-rest n (suc (suc (suc (suc zero)))) h = absurd (omega arith)
+largest-rest n (suc (suc (suc (suc (suc zero))))) h = absurd (omega arith)
+largest-rest n (suc (suc (suc (suc (suc (suc limit)))))) h = refl

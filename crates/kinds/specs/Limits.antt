@@ -1,0 +1,12 @@
+-- What the five fields of each kind may hold, read off the table of kinds.
+use mathlib.Core.List.{List, [], _∷_, map}
+use Prim.Native.Nat.{ℕ, _-_}
+use lib.ListN.{getD}
+use Rattle.protocol.specs.Events.{Kind, kinds}
+
+-- client, attempt, server, database, value
+abbrev pub limitsOf : Kind → List ℕ
+limitsOf kind = kind .client ∷ kind .attempt ∷ kind .server ∷ kind .database ∷ kind .value ∷ []
+
+unfoldable pub limitOf : ℕ → ℕ → ℕ
+limitOf kind field = getD (getD (map limitsOf kinds) (kind - 1) []) field 0
