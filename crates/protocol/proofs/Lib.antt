@@ -1,5 +1,15 @@
 pub mod Names
+pub mod Store
 pub mod Records
 pub mod Range
 pub mod Acceptance
 pub mod Soundness
+pub mod Rows
+pub mod RowSteps
+pub mod Clients
+pub mod History
+pub mod Agreement
+pub mod Later
+pub mod Plan
+pub mod Progress
+pub mod Open

@@ -6,3 +6,4 @@ pub mod Bridge
 pub mod Lent
 pub mod Fresh
 pub mod Soundness
+pub mod Exactly

@@ -1,0 +1,122 @@
+-- Demand 2: the invariants along every accepted list of events, and what they say of the state that it leads to.
+use mathlib.Core.List.{List, [], _∷_, _++_, append-assoc, append-nil}
+use mathlib.Core.Path.{_≡_, refl, _∙_}
+use Prim.Native.Nat.{ℕ, _≤_, _<_}
+use native.Mathlib.Decide.{decLe}
+use native.Mathlib.Omega.{arith}
+use lib.Dec.{T}
+use Rattle.lists.specs.Tests.{every}
+use Rattle.masks.proofs.Laws.{has-zero, has-positive, all-below}
+use Rattle.protocol.specs.declared.Counts.{Counts}
+use Rattle.protocol.specs.Cells.{State, owner, outcome, computed, sent, attempt, delivered, row, rowOf, fresh}
+use Rattle.protocol.specs.Events.{Event}
+use Rattle.protocol.specs.Numbers.{countTests, refusal}
+use Rattle.protocol.specs.Machine.{next, run, Accepted}
+use Rattle.protocol.specs.Agreement.{Agreement}
+use Rattle.protocol.proofs.Acceptance.{met}
+use Rattle.protocol.proofs.Rows.{alike}
+use Rattle.protocol.proofs.RowSteps.{Rows, rows-step}
+use Rattle.protocol.proofs.Clients.{Clients, clients-step}
+use Rattle.protocol.proofs.History.{History, history-step}
+
+-- ---- what holds of every state that an accepted list leads to
+
+pub record Reached (n : Counts) (list : List Event) (s : State) : Type 0 where
+  pub rows : Rows n s
+  pub clients : Clients n s
+  pub history : History list s
+
+pub reached-fresh : (n : Counts) → Reached n [] (fresh n)
+unfolding fresh
+reached-fresh n = record {
+  rows = λ x y. record {
+    claim = record { owner-server = omega arith; owner-sent = λ h. absurd (omega arith); computed-owner = λ h. h };
+    votes = record { yes-voted = λ d t. t; heard-said = λ d t. t; heard-below = omega (arith, all-below (n .databases)) };
+    register = record {
+      outcome-range = omega arith;
+      commit-yes = λ e. absurd (omega arith);
+      commit-value = λ e. refl;
+      commit-computed = λ e. absurd (omega arith);
+    };
+    decisions = record {
+      decided-outcome = λ d t. absurd (has-zero d t);
+      committed-outcome = λ d t. absurd (has-zero d t);
+      decided-committed = λ e d t. t;
+      committed-decided = λ d t. t;
+    };
+    answers = record { acked-decided = λ i d t. t; known-acked = λ i d t. t };
+  };
+  clients = λ x. record {
+    idle = λ e. refl;
+    busy = λ h. h;
+    past = λ y low h. absurd (omega arith);
+    future = λ y h. refl;
+    done = λ e. absurd (omega arith);
+  };
+  history = record {
+    issued = λ c h. absurd (omega arith);
+    traced = λ c k. record { claimed = λ low h. absurd (omega arith); worked = λ low h. absurd (omega arith) };
+  };
+}
+
+reached-step : (n : Counts) (list : List Event) (s : State) (e : Event) → Reached n list s → refusal n s e ≡ 0
+    → Reached n (list ++ (e ∷ [])) (next n s e)
+reached-step n list s e v accepted =
+    let m = met n s e accepted in
+    record {
+      rows = rows-step n s e (v .rows) m;
+      clients = clients-step n s (v .rows) (v .clients) e m;
+      history = history-step n list s (v .rows) (v .clients) (v .history) e m;
+    }
+
+pub reached-run : (n : Counts) (before list : List Event) (s : State) → Reached n before s → Accepted n s list
+    → Reached n (before ++ list) (run n s list)
+unfolding run
+reached-run n before [] s v accepted = rw append-nil v
+reached-run n before (e ∷ list) s v accepted =
+    rw append-assoc at (reached-run n (before ++ (e ∷ [])) list (next n s e) (reached-step n before s e v (accepted .0)) (accepted .1))
+
+-- ---- what that says
+
+module _ (n : Counts) (list : List Event) (s : State) (v : Reached n list s) where
+  -- a committed result was claimed, so it was sent, so its attempt has begun
+  begun : (c k : ℕ) → s (row c k outcome) ≡ 1 → k ≤ s (attempt c)
+  begun c k one =
+      let r = v .rows c k in
+      let claimed = r .claim .computed-owner (r .register .commit-computed one) in
+      let h = has-positive (s (row c k sent)) (s (row c k owner)) (r .claim .owner-sent claimed) in
+      elim (decLe k (s (attempt c))) [ yes l ↦ l | no l ↦ absurd (omega (arith, v .clients c .future k (omega (arith, l)))) ]
+
+  -- and every attempt before one that has begun was aborted
+  one-commit : (c k l : ℕ) → 1 ≤ k → s (row c k outcome) ≡ 1 → s (row c l outcome) ≡ 1 → k < l → ⊥
+  one-commit c k l low one other h = omega (arith, v .clients c .past k low (omega (arith, begun c l other)))
+
+  agrees : Agreement n list s
+  agrees = record {
+    A1 = λ c client two d database.
+        let all = v .clients c .done two .everywhere d (database .0) (database .1) in
+        (v .rows c (s (attempt c)) .decisions .committed-decided d all, all);
+    A2 = λ c k l d client attempt-k attempt-l database t u.
+        let one = v .rows c k .decisions .committed-outcome d t in
+        let other = v .rows c l .decisions .committed-outcome d u in
+        omega (arith, one-commit c k l (attempt-k .0) one other, one-commit c l k (attempt-l .0) other one);
+    A3 = λ c k d e client attempt database other. alike n (rowOf s c k) (v .rows c k) d e;
+    committedDecided = λ c k d client attempt database. v .rows c k .decisions .committed-decided d;
+    V1 = λ c client two.
+        let r = v .rows c (s (attempt c)) in
+        let d = v .clients c .done two in
+        let h = r .register .commit-computed (d .commits) in
+        let e : s (delivered c) ≡ s (row c (s (attempt c)) computed) = d .right-value ∙ r .register .commit-value (d .commits) in (
+          s (row c (s (attempt c)) owner),
+          (r .claim .computed-owner h, r .claim .owner-server),
+          rw e (v .history .traced c (s (attempt c)) .worked (v .clients c .busy (omega arith)) h),
+        );
+    delivers = λ c client two. v .clients c .done two .right-value;
+    V2 = λ c k d client attempt database t e other.
+        let said = v .rows c k .register .commit-yes (v .rows c k .decisions .committed-outcome d t) e (other .0) (other .1) in
+        (v .rows c k .votes .yes-voted e said, said);
+  }
+
+-- (the ranges of the counts play no part)
+pub agreement : (n : Counts) → T (every (countTests n)) → (list : List Event) → Accepted n (fresh n) list → Agreement n list (run n (fresh n) list)
+agreement n counts list accepted = agrees n list (run n (fresh n) list) (reached-run n [] list (fresh n) (reached-fresh n) accepted)

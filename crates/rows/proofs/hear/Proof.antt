@@ -1,0 +1,51 @@
+use native.Mathlib.Omega.{arith}
+use lib.ListN.{length-set}
+use Rattle.rows.proofs.Laws.{kept}
+use borrow.Author.Needs.{needs}
+use Rattle.rows.proofs.hear.Statement.{statement}
+use Rattle.rows.proofs.hear.Tie as tie
+use Rattle.rows.proofs.hear.Reads as reads
+use Rattle.rows.proofs.hear.Lts as lts
+use Rattle.masks.proofs.put.Reads as put-reads
+use Rattle.masks.proofs.with.Reads as with-reads
+
+slice-read-put : tie.Need-slice-read-put
+slice-read-put c = search needs
+
+put-requires : tie.Need-put-requires
+put-requires c κs = search needs
+
+slice-read-with : tie.Need-slice-read-with
+slice-read-with c = search needs
+
+with-requires : tie.Need-with-requires
+with-requires c κs = search needs
+
+slice-write-row : tie.Need-slice-write-row
+slice-write-row c = search needs
+
+slice-write-row-2 : tie.Need-slice-write-row-2
+slice-write-row-2 c = simp length-set (omega (arith, c .before .before .before .before .before .before .pre))
+
+same-length : tie.Need-same-length
+same-length c = search needs
+
+returns : tie.Need-returns
+returns c = λ n. rw (c .before .before .before .before .if1 .taken, c .with .ensures, c .before .before .put .ensures)
+
+returns-2 : tie.Need-returns-2
+returns-2 c = λ n. rw (c .if1 .left) (kept _ _ _)
+
+pub hear-spec : {M : Type 1} → statement M
+hear-spec =
+    tie.close
+    (tie.spec
+    slice-read-put
+    put-requires
+    slice-read-with
+    with-requires
+    slice-write-row
+    slice-write-row-2
+    same-length
+    returns
+    returns-2)

@@ -1,0 +1,15 @@
+use mathlib.Core.Path.{sym}
+use Rattle.rows.proofs.Laws.{and-false, and-true}
+use Rattle.rows.proofs.says.Statement.{statement}
+use Rattle.rows.proofs.says.Tie as tie
+use Rattle.rows.proofs.says.Reads as reads
+use Rattle.rows.proofs.says.Lts as lts
+
+returns : tie.Need-returns
+returns c = rw (c .if1 .taken) (sym (and-false _))
+
+returns-2 : tie.Need-returns-2
+returns-2 c = rw (c .if1 .left) (sym (and-true _))
+
+pub says-spec : {M : Type 1} → statement M
+says-spec = tie.close (tie.spec returns returns-2)
