@@ -1,5 +1,6 @@
 // What the rules of a row ask: the row as a struct, read from the lent cells, and a gate for each rule.
 ghost use mathlib.Core.Path.{_≡_};
+ghost use mathlib.Core.Bool.{_&&_};
 ghost use Prim.Native.Nat.{ℕ, _≤_};
 ghost use lib.Dec.{eqb};
 ghost use lib.ListN.{length};
@@ -216,4 +217,15 @@ pub fn verdict(row: Row, databases: u16) -> Decision
     } else {
         Decision::Abort
     }
+}
+
+// "Under the condition of 6, and only at the owner."
+pub fn owner_listens(row: Row, server: u16, database: u16) -> bool
+    requires { ⌜ (1 ≤ database) × (database ≤ 16) ⌝ }
+    ensures { λ r. ⌜ r ≡ (eqb (row .owner) server && listens database (asRow row)) ⌝ }
+{
+    if row.owner != server {
+        return false;
+    }
+    listens(row, database)
 }

@@ -5,8 +5,8 @@ use mathlib.Core.List.{List}
 use mathlib.Core.Path.{_≡_, refl, sym, ap, ap₂, _∙_}
 use Prim.Native.Nat.{ℕ, zero, suc, _<_}
 use native.Mathlib.Omega.{arith}
-use borrow.Author.Tests.{eq-eqb, ne-eqb}
-use lib.Dec.{T, eqb, eqb→eq}
+use borrow.Author.Tests.{eq-eqb, ne-eqb, lt-ltb}
+use lib.Dec.{T, eqb, ltb, eqb→eq}
 use lib.ListN.{length, getD, set, length-set}
 use lib.Seq.{getD-set-same, getD-set-other, set-getD}
 use Rattle.lists.proofs.Choice.{by-cond, by-both, by-eq}
@@ -197,3 +197,28 @@ pub claim-refuses : (cells : List ℕ) (server : ℕ) → (getD cells 0 0 ≡ 0 
     → _≡_ {A = Claiming} (record { answer = Claimed.Held (getD cells 0 0); cells = cells }) (claiming cells server)
 claim-refuses cells server n =
     λ i. record { answer = sym (claim-answer cells server n) i; cells = sym (claim-stays cells server n) i }
+
+-- ---- whatever the register held: its cells after a write, and that whoever offers a decision is answered one
+
+pub offered-cells : (cells : List ℕ) (d : Decision) → offering cells d .cells
+    ≡ set (set cells 0 (offeredOutcome (getD cells 0 0) d)) 1 (offeredValue (getD cells 0 0) (getD cells 1 0) d)
+unfolding offering
+offered-cells cells d = refl
+
+pub claimed-cells : (cells : List ℕ) (server : ℕ) → claiming cells server .cells ≡ set cells 0 (claimed (getD cells 0 0) server)
+unfolding claiming
+claimed-cells cells server = refl
+
+pub answer-decides : (cells : List ℕ) (d : Decision) → (d ≡ None → ⊥) → holding (offering cells d .answer) ≡ None → ⊥
+answer-decides cells d some e = by-eq (getD cells 0 0) 0
+    (λ empty. some (ap holding (sym (first-taken cells d empty)) ∙ e))
+    (λ full. full (none-held (getD cells 0 0) (getD cells 1 0) (ap holding (sym (written-answer cells d full)) ∙ e)))
+
+-- a register that holds a decision has an outcome that is not 0
+pub held-outcome : (outcome value : ℕ) → ltb 0 (outcomeOf (held outcome value)) ≡ ltb 0 outcome
+unfolding held
+held-outcome zero value = refl
+held-outcome (suc zero) value = refl
+held-outcome (suc (suc outcome)) value =
+    let o = suc (suc outcome) in
+    rw (ne-eqb o 0 (λ e. omega arith), ne-eqb o 1 (λ e. omega arith)) (sym (lt-ltb 0 o (omega arith)))

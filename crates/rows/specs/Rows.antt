@@ -3,15 +3,16 @@ use mathlib.Core.Path.{_≡_}
 use mathlib.Core.Bool.{cond, not}
 use mathlib.Core.List.{List, [], _∷_}
 use Prim.Native.Nat.{ℕ, _≤_}
-use lib.Dec.{eqb}
+use lib.Dec.{eqb, ltb}
 use lib.ListN.{length}
-use Rattle.masks.specs.Mask.{has, with, put}
+use Rattle.lists.specs.Tests.{every}
+use Rattle.masks.specs.Mask.{has, with, put, hasAll}
 use Rattle.registers.specs.Register.{holding}
 use Rattle.registers.specs.declared.Decision.{Decision}
 use Rattle.registers.specs.declared.Decision.the-variants.{None}
 use Rattle.registers.specs.declared.Offered.{Offered}
 use Rattle.protocol.specs.declared.Counts.{Counts}
-use Rattle.protocol.specs.Cells.{outcome, decided, committed, acked, Row, RowWrites}
+use Rattle.protocol.specs.Cells.{outcome, decided, committed, acked, known, Row, RowWrites}
 use Rattle.protocol.specs.Rules.{RowRule, offers}
 use Rattle.table.specs.Layout.{rowLength}
 use Rattle.table.specs.Table.{setFields, rowView}
@@ -41,3 +42,7 @@ obeys d r =
 
 abbrev pub acknowledges : ℕ → ℕ → Row → RowWrites
 acknowledges i d r = (acked i, with (r (acked i)) d) ∷ []
+
+-- the number that rule 14 gives, of what it asks of the row: 6 unless outcome is not 0 and the sender knows all D acknowledgements
+abbrev pub resultGiven : Counts → ℕ → Row → ℕ
+resultGiven n i r = cond (every (ltb 0 (r outcome) ∷ hasAll (n .databases) (r (known i)) ∷ [])) 0 6

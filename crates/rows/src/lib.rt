@@ -6,13 +6,13 @@ ghost use Prim.Native.Nat.{ℕ, _≤_};
 ghost use lib.ListN.{length};
 ghost use Rattle.registers.specs.declared.Decision.the-variants.{None, Abort};
 ghost use Rattle.protocol.specs.declared.Counts.{Counts as Setup};
-ghost use Rattle.protocol.specs.Cells.{acked, known, written};
+ghost use Rattle.protocol.specs.Cells.{owner, acked, known, written};
 ghost use Rattle.protocol.specs.Rules.{calls, claims, votes, hears, offers, terminates, knows, requestRule, computeRule, prepareRule, voteRule, readyRule, writeRule, cleanRule, decideRule, ackRule};
 ghost use Rattle.protocol.specs.Answers.{answerNumber};
 ghost use Rattle.table.specs.Layout.{slot, rowLength};
 ghost use Rattle.table.specs.Table.{setFields, rowView};
 ghost use Rattle.table.specs.Jobs.{Done};
-ghost use Rattle.rows.specs.Rows.{Lent, Offers, obeys, acknowledges, stepped};
+ghost use Rattle.rows.specs.Rows.{Lent, Offers, obeys, acknowledges, stepped, resultGiven};
 use gates::COMMITTED;
 use gates::COMPUTED;
 use gates::DECIDED;
@@ -22,6 +22,7 @@ use gates::OUTCOME;
 use gates::OWNER;
 use gates::SENT;
 use gates::TERMINATING;
+use gates::VALUE;
 use gates::VOTED;
 use gates::VOTED_YES;
 use gates::WRITTEN;
@@ -164,5 +165,163 @@ fn obey(row: &mut [u16], database: u16)
         let committed = masks::put(row[COMMITTED], database, row[OUTCOME] == 1);
         row[DECIDED] = masks::with(row[DECIDED], database);
         row[COMMITTED] = committed;
+    }
+}
+
+// The acknowledgement to the sender is sent.
+fn acknowledge(row: &mut [u16], counts: Counts, server: u16, database: u16)
+    requires { ⌜ Lent counts (now row) ⌝ }
+    requires { ⌜ (1 ≤ server) × (server ≤ counts .servers) ⌝ }
+    requires { ⌜ (1 ≤ database) × (database ≤ counts .databases) ⌝ }
+    ensures { λ _. ⌜ now (row .exit) ≡ setFields counts (now (row .entry)) (acknowledges server database (rowView counts (now (row .entry)))) ⌝ }
+{
+    let sent = acked_at(server);
+    row[sent] = masks::with(row[sent], database);
+}
+
+// ---- the rules
+
+// 3. A request arrives.
+pub fn request(row: &mut [u16], counts: Counts, server: u16) -> Answer
+    requires { ⌜ Lent counts (now row) ⌝ }
+    requires { ⌜ (1 ≤ server) × (server ≤ counts .servers) ⌝ }
+    ensures { λ r. ⌜ record { number = answerNumber r; cells = now (row .exit) } ≡ stepped counts (now (row .entry)) (requestRule server (rowView counts (now (row .entry)))) ⌝ }
+{
+    let answer = gates::request(gates::load(&row[..]), server);
+    if gates::is_accepted(answer) {
+        claim(row, server);
+    }
+    answer
+}
+
+// 4. The owner computes.
+pub fn compute(row: &mut [u16], counts: Counts, server: u16, value: u16) -> Answer
+    requires { ⌜ Lent counts (now row) ⌝ }
+    ensures { λ r. ⌜ record { number = answerNumber r; cells = now (row .exit) } ≡ stepped counts (now (row .entry)) (computeRule server value (rowView counts (now (row .entry)))) ⌝ }
+{
+    let answer = gates::compute(gates::load(&row[..]), server, value);
+    if gates::is_accepted(answer) {
+        row[COMPUTED] = value;
+    }
+    answer
+}
+
+// 5. A prepare arrives.
+pub fn prepare(row: &mut [u16], counts: Counts, database: u16, value: u16) -> Answer
+    requires { ⌜ Lent counts (now row) ⌝ }
+    requires { ⌜ (1 ≤ database) × (database ≤ counts .databases) ⌝ }
+    ensures { λ r. ⌜ record { number = answerNumber r; cells = now (row .exit) } ≡ stepped counts (now (row .entry)) (prepareRule database value (rowView counts (now (row .entry)))) ⌝ }
+{
+    let answer = gates::prepare(gates::load(&row[..]), database, value);
+    if gates::is_accepted(answer) {
+        cast(row, database, value == 1);
+    }
+    answer
+}
+
+// 6. A vote arrives.
+pub fn vote(row: &mut [u16], counts: Counts, server: u16, database: u16) -> Answer
+    requires { ⌜ Lent counts (now row) ⌝ }
+    requires { ⌜ (1 ≤ database) × (database ≤ counts .databases) ⌝ }
+    ensures { λ r. ⌜ record { number = answerNumber r; cells = now (row .exit) } ≡ stepped counts (now (row .entry)) (voteRule server database (rowView counts (now (row .entry)))) ⌝ }
+{
+    let cells = gates::load(&row[..]);
+    let answer = gates::vote(cells, server, database);
+    if gates::is_accepted(answer) {
+        let listening = gates::listens(cells, database);
+        hear(row, listening, database, masks::has(cells.voted_yes, database));
+    }
+    answer
+}
+
+// 7. A ready arrives.
+pub fn ready(row: &mut [u16], counts: Counts, server: u16, database: u16, ready: u16) -> Answer
+    requires { ⌜ Lent counts (now row) ⌝ }
+    requires { ⌜ (1 ≤ database) × (database ≤ counts .databases) ⌝ }
+    ensures { λ r. ⌜ record { number = answerNumber r; cells = now (row .exit) } ≡ stepped counts (now (row .entry)) (readyRule server database ready (rowView counts (now (row .entry)))) ⌝ }
+{
+    let cells = gates::load(&row[..]);
+    let answer = gates::ready(cells, server, database, ready);
+    if gates::is_accepted(answer) {
+        let listening = gates::owner_listens(cells, server, database);
+        hear(row, listening, database, false);
+    }
+    answer
+}
+
+// 8. The owner writes its verdict.
+pub fn write(row: &mut [u16], counts: Counts, server: u16) -> Answer
+    requires { ⌜ Lent counts (now row) ⌝ }
+    requires { ⌜ (1 ≤ server) × (server ≤ counts .servers) ⌝ }
+    ensures { λ r. ⌜ record { number = answerNumber r; cells = now (row .exit) } ≡ stepped counts (now (row .entry)) (writeRule (counts .databases) server (rowView counts (now (row .entry)))) ⌝ }
+{
+    let cells = gates::load(&row[..]);
+    let answer = gates::write(cells, counts.databases, server);
+    if gates::is_accepted(answer) {
+        settle(row, server, gates::verdict(cells, counts.databases));
+    }
+    answer
+}
+
+// 11. Another server cleans.
+pub fn clean(row: &mut [u16], counts: Counts, server: u16, suspected: u16) -> Answer
+    requires { ⌜ Lent counts (now row) ⌝ }
+    requires { ⌜ (1 ≤ server) × (server ≤ counts .servers) ⌝ }
+    requires { ⌜ rowView counts (now row) owner ≤ 16 ⌝ }
+    ensures { λ r. ⌜ record { number = answerNumber r; cells = now (row .exit) } ≡ stepped counts (now (row .entry)) (cleanRule server suspected (rowView counts (now (row .entry)))) ⌝ }
+{
+    let answer = gates::clean(gates::load(&row[..]), server, suspected);
+    if gates::is_accepted(answer) {
+        sweep(row, server);
+    }
+    answer
+}
+
+// 12. A decision arrives.
+pub fn decide(row: &mut [u16], counts: Counts, server: u16, database: u16) -> Answer
+    requires { ⌜ Lent counts (now row) ⌝ }
+    requires { ⌜ (1 ≤ server) × (server ≤ counts .servers) ⌝ }
+    requires { ⌜ (1 ≤ database) × (database ≤ counts .databases) ⌝ }
+    ensures { λ r. ⌜ record { number = answerNumber r; cells = now (row .exit) } ≡ stepped counts (now (row .entry)) (decideRule server database (rowView counts (now (row .entry)))) ⌝ }
+{
+    let answer = gates::decide(gates::load(&row[..]), server, database);
+    if gates::is_accepted(answer) {
+        obey(row, database);
+        acknowledge(row, counts, server, database);
+    }
+    answer
+}
+
+// 13. An acknowledgement arrives.
+pub fn ack(row: &mut [u16], counts: Counts, server: u16, database: u16) -> Answer
+    requires { ⌜ Lent counts (now row) ⌝ }
+    requires { ⌜ (1 ≤ server) × (server ≤ counts .servers) ⌝ }
+    requires { ⌜ (1 ≤ database) × (database ≤ counts .databases) ⌝ }
+    ensures { λ r. ⌜ record { number = answerNumber r; cells = now (row .exit) } ≡ stepped counts (now (row .entry)) (ackRule server database (rowView counts (now (row .entry)))) ⌝ }
+{
+    let sent = acked_at(server);
+    if !masks::has(row[sent], database) {
+        return Answer::NotSent;
+    }
+    let known = known_at(counts, server);
+    row[known] = masks::with(row[known], database);
+    Answer::Accepted
+}
+
+// 14, what it asks of the row: sent if outcome is not 0 and the sender knows all D acknowledgements.
+pub fn result(row: &[u16], counts: Counts, server: u16) -> Answer
+    requires { ⌜ Lent counts (now row) ⌝ }
+    requires { ⌜ (1 ≤ server) × (server ≤ counts .servers) ⌝ }
+    ensures { λ r. ⌜ answerNumber r ≡ resultGiven counts server (rowView counts (now (row .entry))) ⌝ }
+{
+    let decision = registers::read(row[OUTCOME], row[VALUE]);
+    let known = known_at(counts, server);
+    if !masks::has_all(row[known], counts.databases) {
+        return Answer::NotSent;
+    }
+    match decision {
+        Decision::None => Answer::NotSent,
+        Decision::Commit(_) => Answer::Accepted,
+        Decision::Abort => Answer::Accepted,
     }
 }

@@ -6,10 +6,10 @@ use Rattle.rows.proofs.says.Reads as reads
 use Rattle.rows.proofs.says.Lts as lts
 
 returns : tie.Need-returns
-returns c = rw (c .if1 .taken) (sym (and-false _))
+returns c = rw (c .if1 .taken) (sym (and-false (c .before .args .yes)))
 
 returns-2 : tie.Need-returns-2
-returns-2 c = rw (c .if1 .left) (sym (and-true _))
+returns-2 c = rw (c .if1 .left) (sym (and-true (c .before .args .yes)))
 
 pub says-spec : {M : Type 1} → statement M
 says-spec = tie.close (tie.spec returns returns-2)
