@@ -1,8 +1,8 @@
 -- Records and events: the kinds are 1 to 18, and a record whose fields pass is the record of its event, so nothing is lost in reading it.
-use mathlib.Core.Path.{_≡_, refl, sym, ap, _∙_, subst}
-use mathlib.Core.Bool.{Bool, not}
+use mathlib.Core.Path.{_≡_, refl, sym, ap, ap₂, subst, _∙_}
+use mathlib.Core.Bool.{Bool, true, false, not, cond}
 use mathlib.Core.List.{List, [], _∷_}
-use mathlib.Core.Option.{Option, none, some, Option·none-ne-some, Option·some-injective}
+use mathlib.Core.Option.{none, some, Option·none-ne-some, Option·some-injective}
 use Prim.Native.Nat.{ℕ, zero, suc, _≤_, _<_}
 use native.Mathlib.Omega.{arith}
 use lib.Dec.{T, eqb, eqb→eq, T-not}
@@ -11,7 +11,8 @@ use Rattle.lists.specs.Tests.{All, inside}
 use Rattle.lists.proofs.Choice.{inside-low, inside-high, in-inside}
 use Rattle.protocol.specs.declared.Counts.{Counts}
 use Rattle.protocol.specs.declared.Event.{Event as Record}
-use Rattle.protocol.specs.Events.{Kind, kinds, kindOf, record-of, recordOf}
+use Rattle.protocol.specs.Events.{Event, issue, timeout, request-arrives, compute, prepare-arrives, vote-arrives, ready-arrives, write, suspect, trust, clean, decide-arrives, ack-arrives, result-arrives, server-crashes, database-crashes, client-crashes, database-recovers}
+use Rattle.protocol.specs.Events.{Kind, kinds, kindOf, record-of, recordOf, unused, largest, fits}
 use Rattle.protocol.specs.Numbers.{fieldTests}
 
 -- ---- the lines of a table, by their places
@@ -51,42 +52,71 @@ kind-unknown (suc i) t = line-out kinds i (omega (arith, low))
 
 -- ---- a record is that of its event
 
-whole : (r : Record) (k c a s d v : ℕ) → r .kind ≡ k → c ≡ r .client → a ≡ r .attempt → s ≡ r .server → d ≡ r .database → v ≡ r .value
-    → record-of k c a s d v ≡ r
-whole r k c a s d v ek ec ea es ed ev = λ j. record { kind = sym ek j; client = ec j; attempt = ea j; server = es j; database = ed j; value = ev j }
+-- a field as an event's record has it: 0 where unused
+abbrev kept : ℕ → ℕ → ℕ
+kept limit field = cond (eqb limit unused) 0 field
 
-blank : (x : ℕ) → T (eqb x 0) → 0 ≡ x
-blank x t = sym (eqb→eq x 0 t)
+abbrev keeping : ℕ → Kind → Record → Record
+keeping i kind r =
+    record-of (suc i) (kept (kind .client) (r .client)) (kept (kind .attempt) (r .attempt)) (kept (kind .server) (r .server))
+    (kept (kind .database) (r .database)) (kept (kind .value) (r .value))
 
-abbrev Faithful : Counts → ℕ → Kind → Type 0
-Faithful n i kind = (r : Record) → r .kind ≡ suc i → All (fieldTests n (some kind) r) → recordOf (kind .event r) ≡ r
+abbrev Faithful : ℕ → Kind → Type 0
+Faithful i kind = (λ r. recordOf (kind .event r)) ≡ keeping i kind
 
--- an unused field is 0, line by line
-faithful : (n : Counts) → Lines (Faithful n) kinds
-faithful n =
-    ((λ r e f. whole r 1 (r .client) 0 0 0 (r .value) e refl (blank (r .attempt) (f .1 .0)) (blank (r .server) (f .1 .1 .0)) (blank (r .database) (f .1 .1 .1 .0)) refl),
-    ((λ r e f. whole r 2 (r .client) 0 0 0 0 e refl (blank (r .attempt) (f .1 .0)) (blank (r .server) (f .1 .1 .0)) (blank (r .database) (f .1 .1 .1 .0)) (blank (r .value) (f .1 .1 .1 .1 .0))),
-    ((λ r e f. whole r 3 (r .client) (r .attempt) (r .server) 0 0 e refl refl refl (blank (r .database) (f .1 .1 .1 .0)) (blank (r .value) (f .1 .1 .1 .1 .0))),
-    ((λ r e f. whole r 4 (r .client) (r .attempt) (r .server) 0 (r .value) e refl refl refl (blank (r .database) (f .1 .1 .1 .0)) refl),
-    ((λ r e f. whole r 5 (r .client) (r .attempt) 0 (r .database) (r .value) e refl refl (blank (r .server) (f .1 .1 .0)) refl refl),
-    ((λ r e f. whole r 6 (r .client) (r .attempt) (r .server) (r .database) 0 e refl refl refl refl (blank (r .value) (f .1 .1 .1 .1 .0))),
-    ((λ r e f. whole r 7 (r .client) (r .attempt) (r .server) (r .database) 0 e refl refl refl refl (blank (r .value) (f .1 .1 .1 .1 .0))),
-    ((λ r e f. whole r 8 (r .client) (r .attempt) (r .server) 0 0 e refl refl refl (blank (r .database) (f .1 .1 .1 .0)) (blank (r .value) (f .1 .1 .1 .1 .0))),
-    ((λ r e f. whole r 9 0 0 (r .server) 0 (r .value) e (blank (r .client) (f .0)) (blank (r .attempt) (f .1 .0)) refl (blank (r .database) (f .1 .1 .1 .0)) refl),
-    ((λ r e f. whole r 10 0 0 (r .server) 0 (r .value) e (blank (r .client) (f .0)) (blank (r .attempt) (f .1 .0)) refl (blank (r .database) (f .1 .1 .1 .0)) refl),
-    ((λ r e f. whole r 11 (r .client) (r .attempt) (r .server) 0 0 e refl refl refl (blank (r .database) (f .1 .1 .1 .0)) (blank (r .value) (f .1 .1 .1 .1 .0))),
-    ((λ r e f. whole r 12 (r .client) (r .attempt) (r .server) (r .database) 0 e refl refl refl refl (blank (r .value) (f .1 .1 .1 .1 .0))),
-    ((λ r e f. whole r 13 (r .client) (r .attempt) (r .server) (r .database) 0 e refl refl refl refl (blank (r .value) (f .1 .1 .1 .1 .0))),
-    ((λ r e f. whole r 14 (r .client) (r .attempt) (r .server) 0 0 e refl refl refl (blank (r .database) (f .1 .1 .1 .0)) (blank (r .value) (f .1 .1 .1 .1 .0))),
-    ((λ r e f. whole r 15 0 0 (r .server) 0 0 e (blank (r .client) (f .0)) (blank (r .attempt) (f .1 .0)) refl (blank (r .database) (f .1 .1 .1 .0)) (blank (r .value) (f .1 .1 .1 .1 .0))),
-    ((λ r e f. whole r 16 0 0 0 (r .database) 0 e (blank (r .client) (f .0)) (blank (r .attempt) (f .1 .0)) (blank (r .server) (f .1 .1 .0)) refl (blank (r .value) (f .1 .1 .1 .1 .0))),
-    ((λ r e f. whole r 17 (r .client) 0 0 0 0 e refl (blank (r .attempt) (f .1 .0)) (blank (r .server) (f .1 .1 .0)) (blank (r .database) (f .1 .1 .1 .0)) (blank (r .value) (f .1 .1 .1 .1 .0))),
-    ((λ r e f. whole r 18 0 0 0 (r .database) 0 e (blank (r .client) (f .0)) (blank (r .attempt) (f .1 .0)) (blank (r .server) (f .1 .1 .0)) refl (blank (r .value) (f .1 .1 .1 .1 .0))),
-    tt))))))))))))))))))
+faithful : Lines Faithful kinds
+faithful = (refl, (refl, (refl, (refl, (refl, (refl, (refl, (refl, (refl, (refl, (refl, (refl, (refl, (refl, (refl, (refl, (refl, (refl, tt))))))))))))))))))
 
-pub event-record : (n : Counts) (r : Record) (kind : Kind) → kindOf (r .kind) ≡ some kind → All (fieldTests n (some kind) r) → recordOf (kind .event r) ≡ r
+-- an unused field that passes is 0
+kept-same : (n : Counts) (limit field : ℕ) → T (fits n limit field) → kept limit field ≡ field
+kept-same n limit field = go (eqb limit unused)
+  where
+    go : (b : Bool) → T (cond b (eqb field 0) (inside (largest n limit) field)) → cond b 0 field ≡ field
+    go true t = sym (eqb→eq field 0 t)
+    go false t = refl
+
+pub event-record : (n : Counts) (r : Record) (kind : Kind) → kindOf (r .kind) ≡ some kind → All (fieldTests n (some kind) r)
+    → recordOf (kind .event r) ≡ r
 event-record n r kind e f = go (r .kind) refl e
   where
     go : (k : ℕ) → r .kind ≡ k → kindOf k ≡ some kind → recordOf (kind .event r) ≡ r
     go zero q e = absurd (Option·none-ne-some kind e)
-    go (suc i) q e = line-at (Faithful n) kinds (faithful n) i kind e r q f
+    go (suc i) q e =
+        ap (λ read. read r) (line-at Faithful kinds faithful i kind e)
+        ∙ λ j. record {
+          kind = sym q j;
+          client = kept-same n (kind .client) (r .client) (f .0) j;
+          attempt = kept-same n (kind .attempt) (r .attempt) (f .1 .0) j;
+          server = kept-same n (kind .server) (r .server) (f .1 .1 .0) j;
+          database = kept-same n (kind .database) (r .database) (f .1 .1 .1 .0) j;
+          value = kept-same n (kind .value) (r .value) (f .1 .1 .1 .1 .0) j;
+        }
+
+-- ---- the record of an event is read as that event, and is no other event's
+
+pub event-of : (e : Event) → (kind : Kind) × (kindOf (recordOf e .kind) ≡ some kind) × (kind .event (recordOf e) ≡ e)
+event-of (issue c v) = (_, refl, refl)
+event-of (timeout c) = (_, refl, refl)
+event-of (request-arrives c k i) = (_, refl, refl)
+event-of (compute c k i v) = (_, refl, refl)
+event-of (prepare-arrives c k d v) = (_, refl, refl)
+event-of (vote-arrives c k i d) = (_, refl, refl)
+event-of (ready-arrives c k i d) = (_, refl, refl)
+event-of (write c k i) = (_, refl, refl)
+event-of (suspect i o) = (_, refl, refl)
+event-of (trust i o) = (_, refl, refl)
+event-of (clean c k i) = (_, refl, refl)
+event-of (decide-arrives c k i d) = (_, refl, refl)
+event-of (ack-arrives c k i d) = (_, refl, refl)
+event-of (result-arrives c k i) = (_, refl, refl)
+event-of (server-crashes i) = (_, refl, refl)
+event-of (database-crashes d) = (_, refl, refl)
+event-of (client-crashes c) = (_, refl, refl)
+event-of (database-recovers d) = (_, refl, refl)
+
+pub one-event : (e f : Event) → recordOf e ≡ recordOf f → e ≡ f
+one-event e f same =
+    let (kind, line, reads) = event-of e in
+    let (other, line-too, reads-too) = event-of f in
+    let kinds-same = Option·some-injective kind other (sym line ∙ ap (λ r. kindOf (r .kind)) same ∙ line-too) in
+    sym reads ∙ ap₂ (λ k r. k .event r) kinds-same same ∙ reads-too

@@ -4,9 +4,10 @@ ghost use mathlib.Core.Bool.{Bool, true, false, not, _&&_};
 ghost use mathlib.Core.List.{[], _∷_};
 ghost use Prim.Native.Nat.{ℕ, _≤_};
 ghost use lib.ListN.{length};
+ghost use Rattle.masks.specs.Mask.{all};
 ghost use Rattle.registers.specs.declared.Decision.the-variants.{None, Abort};
 ghost use Rattle.protocol.specs.declared.Counts.{Counts as Setup};
-ghost use Rattle.protocol.specs.Cells.{owner, acked, known, written};
+ghost use Rattle.protocol.specs.Cells.{owner, sent, acked, known, written};
 ghost use Rattle.protocol.specs.Rules.{calls, claims, votes, hears, offers, terminates, knows, requestRule, computeRule, prepareRule, voteRule, readyRule, writeRule, cleanRule, decideRule, ackRule};
 ghost use Rattle.protocol.specs.Answers.{answerNumber};
 ghost use Rattle.table.specs.Layout.{slot, rowLength};
@@ -235,7 +236,7 @@ pub fn vote(row: &mut [u16], counts: Counts, server: u16, database: u16) -> Answ
 }
 
 // 7. A ready arrives.
-pub fn ready(row: &mut [u16], counts: Counts, server: u16, database: u16, ready: u16) -> Answer
+pub fn hear_ready(row: &mut [u16], counts: Counts, server: u16, database: u16, ready: u16) -> Answer
     requires { ⌜ Lent counts (now row) ⌝ }
     requires { ⌜ (1 ≤ database) × (database ≤ counts .databases) ⌝ }
     ensures { λ r. ⌜ record { number = answerNumber r; cells = now (row .exit) } ≡ stepped counts (now (row .entry)) (readyRule server database ready (rowView counts (now (row .entry)))) ⌝ }
@@ -324,4 +325,12 @@ pub fn result(row: &[u16], counts: Counts, server: u16) -> Answer
         Decision::Commit(_) => Answer::Accepted,
         Decision::Abort => Answer::Accepted,
     }
+}
+
+// The request is sent to every server.
+pub fn call_all(row: &mut [u16], counts: Counts)
+    requires { ⌜ Lent counts (now row) ⌝ }
+    ensures { λ _. ⌜ now (row .exit) ≡ setFields counts (now (row .entry)) ((sent, all (counts .servers)) ∷ []) ⌝ }
+{
+    row[SENT] = masks::all(counts.servers);
 }

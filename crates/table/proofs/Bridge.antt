@@ -1,13 +1,12 @@
 -- The view of the cells after an accepted record is the machine's step on the view before, for all 18 kinds; and an accepted record changes no count and no length.
-use mathlib.Core.Path.{_≡_, refl, sym, ap, _∙_, subst}
-use mathlib.Core.Bool.{Bool, true, false, not, cond, _&&_}
+use mathlib.Core.Path.{_≡_, ap, _∙_}
+use mathlib.Core.Bool.{not, cond, _&&_}
 use mathlib.Core.List.{List, [], _∷_}
-use mathlib.Core.Option.{some}
-use Prim.Native.Nat.{ℕ, suc, _≤_, _<_}
+use Prim.Native.Nat.{ℕ, suc, _≤_}
 use native.Mathlib.Omega.{arith}
 use lib.Dec.{T, eqb, eqb→eq, T-not, eqb-refl}
 use lib.ListN.{length}
-use Rattle.lists.specs.Tests.{All, inside}
+use Rattle.lists.specs.Tests.{inside}
 use Rattle.lists.proofs.Choice.{both, by-cond, by-eq, in-inside, inside-low, inside-high}
 use Rattle.protocol.specs.declared.Counts.{Counts}
 use Rattle.protocol.specs.declared.Event.{Event as Record}
@@ -17,12 +16,12 @@ use Rattle.protocol.specs.Events.{Event, issue, timeout, request-arrives, compu
 use Rattle.protocol.specs.Rules.{rule, calls}
 use Rattle.protocol.specs.Machine.{next, Met}
 use Rattle.protocol.proofs.Acceptance.{met}
-use Rattle.protocol.proofs.Range.{InRange, range-facts, waiting-attempt}
+use Rattle.protocol.proofs.Range.{range-facts, waiting-attempt}
 use Rattle.table.specs.Layout.{tableLength}
 use Rattle.table.specs.Table.{countsOf, view, setAll}
-use Rattle.table.specs.Jobs.{writesAt, after, numberOf}
-use Rattle.table.proofs.Accepts.{Sound, Accepts, accepts}
-use Rattle.table.proofs.View.{Exist, FieldsExist, view-setAll, length-setAll, counts-setAll}
+use Rattle.table.specs.Jobs.{writesAt, after}
+use Rattle.table.proofs.Accepts.{Accepts}
+use Rattle.table.proofs.View.{Exist, view-setAll, length-setAll, counts-setAll}
 
 -- ---- every cell that a rule writes exists
 
@@ -34,7 +33,7 @@ module _ (n : Counts) where
   below k m l t = by-eq k m (λ e. absurd (T-not (eqb k m) t (rw e (eqb-refl m)))) (λ d. omega (arith, d))
 
   module _ (s : State) (first : T (inside (n .attempts) 1)) (waits : (c : ℕ) → T (inside (n .clients) c) → s (phase c) ≡ 1 → T (inside (n .attempts) (s (attempt c)))) where
-    pub writes-exist : (e : Event) → Met n s e → Exist n (rule n s e .writes)
+    writes-exist : (e : Event) → Met n s e → Exist n (rule n s e .writes)
     writes-exist (issue c v) m = let x = m .fit .0 in (x, (x, (x, (cell c 1 x first sent tt, tt))))
     writes-exist (timeout c) m = (cell c (s (attempt c)) (m .fit .0) (waits c (m .fit .0) (eqb→eq (s (phase c)) 1 (m .must .0))) sent tt, tt)
     writes-exist (request-arrives c k i) m = (cell c k (m .fit .0) (m .fit .1 .0) owner tt, tt)
@@ -68,30 +67,34 @@ module _ (n : Counts) where
 -- ---- an accepted record
 
 module _ (t : List ℕ) (r : Record) (a : Accepts t r) where
-  pub eventOf : Event
+  abbrev counts : Counts
+  counts = countsOf t
+
+  abbrev before : State
+  before = view counts t
+
+  abbrev pub eventOf : Event
   eventOf = a .reading .kind .event r
 
-  exist : Exist (countsOf t) (rule (countsOf t) (view (countsOf t) t) eventOf .writes)
-  unfolding eventOf
+  abbrev writes : Writes
+  writes = rule counts before eventOf .writes
+
+  exist : Exist counts writes
   exist =
-      let range = range-facts (countsOf t) (view (countsOf t) t) (a .sound .range) in
-      let k1 = inside-low 16 (countsOf t .attempts) (a .sound .size .1 .1 .1 .1 .0) in
-      writes-exist (countsOf t) (view (countsOf t) t) (in-inside (countsOf t .attempts) 1 (omega arith) k1)
-      (waiting-attempt (countsOf t) (view (countsOf t) t) range) (a .reading .kind .event r)
-      (met (countsOf t) (view (countsOf t) t) (a .reading .kind .event r) (a .reading .accepted))
+      let first = in-inside (counts .attempts) 1 (omega arith) (inside-low 16 (counts .attempts) (a .sound .size .1 .1 .1 .1 .0)) in
+      let waits = waiting-attempt counts before (range-facts counts before (a .sound .range)) in
+      writes-exist counts before first waits eventOf (met counts before eventOf (a .reading .accepted))
 
-  after-writes : after (countsOf t) t r ≡ setAll (countsOf t) t (rule (countsOf t) (view (countsOf t) t) eventOf .writes)
-  unfolding after eventOf
-  after-writes = ap (λ k. setAll (countsOf t) t (writesAt (countsOf t) (view (countsOf t) t) r k)) (a .reading .line)
+  pub after-writes : after counts t r ≡ setAll counts t writes
+  unfolding after
+  after-writes = ap (λ line. setAll counts t (writesAt counts before r line)) (a .reading .line)
 
-  pub after-view : view (countsOf t) (after (countsOf t) t r) ≡ next (countsOf t) (view (countsOf t) t) eventOf
+  pub after-view : view counts (after counts t r) ≡ next counts before eventOf
   unfolding next
-  after-view =
-      ap (view (countsOf t)) after-writes
-      ∙ view-setAll (countsOf t) t (eqb→eq (length t) (tableLength (countsOf t)) (a .sound .size .0)) (rule (countsOf t) (view (countsOf t) t) eventOf .writes) exist
+  after-view = ap (view counts) after-writes ∙ view-setAll counts t (eqb→eq (length t) (tableLength counts) (a .sound .size .0)) writes exist
 
-  pub after-length : length (after (countsOf t) t r) ≡ length t
-  after-length = ap length after-writes ∙ length-setAll (countsOf t) t (rule (countsOf t) (view (countsOf t) t) eventOf .writes)
+  pub after-length : length (after counts t r) ≡ length t
+  after-length = ap length after-writes ∙ length-setAll counts t writes
 
-  pub after-counts : countsOf (after (countsOf t) t r) ≡ countsOf t
-  after-counts = ap countsOf after-writes ∙ counts-setAll (countsOf t) t (rule (countsOf t) (view (countsOf t) t) eventOf .writes) exist
+  pub after-counts : countsOf (after counts t r) ≡ counts
+  after-counts = ap countsOf after-writes ∙ counts-setAll counts t writes exist

@@ -7,3 +7,4 @@ pub mod Lent
 pub mod Fresh
 pub mod Soundness
 pub mod Exactly
+pub mod Runs

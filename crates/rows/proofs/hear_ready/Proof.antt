@@ -3,10 +3,10 @@ use Rattle.table.specs.Table.{rowView}
 use Rattle.rows.proofs.Laws.{went, stayed}
 use Rattle.protocol.specs.Rules.{readyRule}
 use borrow.Author.Needs.{needs}
-use Rattle.rows.proofs.ready.Statement.{statement}
-use Rattle.rows.proofs.ready.Tie as tie
-use Rattle.rows.proofs.ready.Reads as reads
-use Rattle.rows.proofs.ready.Lts as lts
+use Rattle.rows.proofs.hear_ready.Statement.{statement}
+use Rattle.rows.proofs.hear_ready.Tie as tie
+use Rattle.rows.proofs.hear_ready.Reads as reads
+use Rattle.rows.proofs.hear_ready.Lts as lts
 use Rattle.gates.proofs.is_accepted.Reads as is-accepted-reads
 use Rattle.gates.proofs.load.Reads as load-reads
 use Rattle.gates.proofs.owner_listens.Reads as owner-listens-reads
@@ -48,8 +48,8 @@ returns-2 c =
     let l = s .args .row .now in
     stayed n l l (readyRule (s .args .server) (s .args .database) (s .args .ready) (rowView n l)) (c .before .before .ready .result) _ (c .before .before .ready .ensures) (c .before .is-accepted .ensures) (c .if1 .left)
 
-pub ready-spec : {M : Type 1} → statement M
-ready-spec =
+pub hear-ready-spec : {M : Type 1} → statement M
+hear-ready-spec =
     tie.close
     (tie.spec
     load-requires

@@ -1,0 +1,58 @@
+use native.Mathlib.Omega.{arith}
+use Rattle.table.specs.Layout.{rowsBefore, rowStart}
+use Rattle.layout.proofs.Laws.{clients-before, cells-before}
+use borrow.Author.Needs.{needs}
+use Rattle.layout.proofs.row_start.Statement.{statement}
+use Rattle.layout.proofs.row_start.Tie as tie
+use Rattle.layout.proofs.row_start.Reads as reads
+use Rattle.layout.proofs.row_start.Lts as lts
+use Rattle.layout.proofs.row_length.Reads as row-length-reads
+use Rattle.layout.proofs.rows_start.Reads as rows-start-reads
+
+sub-before : tie.Need-sub-before
+sub-before c = search needs
+
+cast-before : tie.Need-cast-before
+cast-before c = search needs
+
+mul-before : tie.Need-mul-before
+mul-before c = omega (arith, clients-before _ (c .before .pre .0) _ _ (c .before .pre .1 .0 .0) (c .before .pre .1 .0 .1) (c .before .pre .1 .1 .0) (c .before .pre .1 .1 .1))
+
+sub-before-2 : tie.Need-sub-before-2
+sub-before-2 c = search needs
+
+add-before : tie.Need-add-before
+add-before c = omega (arith, clients-before _ (c .before .pre .0) _ _ (c .before .pre .1 .0 .0) (c .before .pre .1 .0 .1) (c .before .pre .1 .1 .0) (c .before .pre .1 .1 .1))
+
+rows-start-requires : tie.Need-rows-start-requires
+rows-start-requires c κs = search needs
+
+row-length-requires : tie.Need-row-length-requires
+row-length-requires c κs = search needs
+
+mul-result : tie.Need-mul-result
+unfolding rowsBefore
+mul-result c = rw (c .row-length .ensures) (omega (arith, cells-before _ (c .before .before .before .pre .0) _ _ (c .before .before .before .pre .1 .0 .0) (c .before .before .before .pre .1 .0 .1) (c .before .before .before .pre .1 .1 .0) (c .before .before .before .pre .1 .1 .1)))
+
+add-result : tie.Need-add-result
+unfolding rowsBefore
+add-result c = rw (c .row-length .ensures) (omega (arith, cells-before _ (c .before .before .before .pre .0) _ _ (c .before .before .before .pre .1 .0 .0) (c .before .before .before .pre .1 .0 .1) (c .before .before .before .pre .1 .1 .0) (c .before .before .before .pre .1 .1 .1)))
+
+returns : tie.Need-returns
+unfolding rowStart
+returns c = rw (c .row-length .ensures, c .before .rows-start .ensures)
+
+pub row-start-spec : {M : Type 1} → statement M
+row-start-spec =
+    tie.close
+    (tie.spec
+    sub-before
+    cast-before
+    mul-before
+    sub-before-2
+    add-before
+    rows-start-requires
+    row-length-requires
+    mul-result
+    add-result
+    returns)

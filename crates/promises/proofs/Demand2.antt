@@ -1,0 +1,44 @@
+-- Demand 2: the accepted events of a list do what the rules say, and what they lead to keeps the paper's A.1 to A.3, V.1 and V.2.
+use mathlib.Core.Path.{_≡_, refl, sym, ap₂, subst}
+use mathlib.Core.List.{List, [], _∷_, map, head-eq-of-cons-eq, tail-eq-of-cons-eq}
+use Prim.Native.Nat.{ℕ}
+use lib.Dec.{T}
+use Rattle.lists.specs.Tests.{every}
+use Rattle.protocol.specs.declared.Counts.{Counts}
+use Rattle.protocol.specs.declared.Event.{Event as Record}
+use Rattle.protocol.specs.Events.{Event, recordOf}
+use Rattle.protocol.specs.Rules.{rule}
+use Rattle.protocol.specs.Numbers.{countTests}
+use Rattle.protocol.specs.Machine.{next}
+use Rattle.protocol.specs.Agreement.{Agreement}
+use Rattle.protocol.proofs.Records.{one-event}
+use Rattle.protocol.proofs.Agreement.{agreement}
+use Rattle.table.specs.Table.{countsOf, view, setAll, freshTable}
+use Rattle.table.specs.Jobs.{applied}
+use Rattle.table.proofs.Runs.{record-does}
+use Rattle.promises.specs.Lists.{Accepted, after}
+use Rattle.promises.proofs.Transfer.{from-fresh}
+
+-- an accepted record is that of an event, and it leaves the cells with what the event's rule writes: as a state, what the machine goes to
+pub accepted-does : (t : List ℕ) (r : Record) → applied t r .number ≡ 0
+    → (e : Event) × (recordOf e ≡ r)
+    × (applied t r .cells ≡ setAll (countsOf t) t (rule (countsOf t) (view (countsOf t) t) e .writes))
+    × (view (countsOf t) (applied t r .cells) ≡ next (countsOf t) (view (countsOf t) t) e)
+accepted-does t r accepted =
+    let (e, does) = record-does (countsOf t) t r refl accepted in
+    (e, does .same, does .writes, does .leads)
+
+-- a list of records stands for one list of events only
+pub one-reading : (events others : List Event) → map recordOf events ≡ map recordOf others → events ≡ others
+one-reading [] [] same = refl
+one-reading [] (f ∷ others) same = cc
+one-reading (e ∷ events) [] same = cc
+one-reading (e ∷ events) (f ∷ others) same =
+    ap₂ {C = List Event} (λ x xs. x ∷ xs) (one-event e f (head-eq-of-cons-eq same)) (one-reading events others (tail-eq-of-cons-eq same))
+
+-- for every list of records accepted whole from a fresh table, over the events that the records stand for and the state of the table after it
+pub demand-2 : (n : Counts) → T (every (countTests n)) → (list : List Record) → Accepted (freshTable n) list
+    → (events : List Event) × (map recordOf events ≡ list) × Agreement n events (view n (after (freshTable n) list))
+demand-2 n counts list accepted =
+    let (events, stands) = from-fresh n list accepted in
+    (events, stands .same, subst (Agreement n events) (sym (stands .leads)) (agreement n counts events (stands .accepts)))

@@ -1,0 +1,62 @@
+-- Demand 3: nobody is held in doubt, in the sense of promises' specs/Progress; and no vote is open then, in the paper's own words.
+use mathlib.Core.Logic.{_↔_}
+use mathlib.Core.Path.{_≡_, sym, ap, ap₂, subst, _∙_}
+use mathlib.Core.Bool.{not}
+use mathlib.Core.List.{List, _++_, map, map-append}
+use Prim.Native.Nat.{ℕ}
+use lib.Dec.{T}
+use Rattle.lists.specs.Tests.{every}
+use Rattle.masks.specs.Mask.{has}
+use Rattle.protocol.specs.declared.Counts.{Counts}
+use Rattle.protocol.specs.declared.Event.{Event as Record}
+use Rattle.protocol.specs.Cells.{fresh, row, votedYes, decided}
+use Rattle.protocol.specs.Events.{Event, recordOf}
+use Rattle.protocol.specs.Numbers.{countTests}
+use Rattle.protocol.specs.Machine as machine
+use Rattle.protocol.specs.Agreement.{Id}
+use Rattle.protocol.specs.Progress as plans
+use Rattle.protocol.specs.Progress.{Open}
+use Rattle.protocol.proofs.Progress.{progress}
+use Rattle.protocol.proofs.Open as open-vote
+use Rattle.table.specs.Table.{view, freshTable}
+use Rattle.table.proofs.Runs.{stands}
+use Rattle.promises.specs.Lists.{Accepted, after}
+use Rattle.promises.specs.Progress.{Settled, Progress}
+use Rattle.promises.proofs.Transfer.{from-fresh, progress-carries}
+
+-- for every list of records accepted whole from a fresh table
+pub demand-3 : (n : Counts) → T (every (countTests n)) → (list : List Record) → Accepted (freshTable n) list
+    → Progress n (after (freshTable n) list)
+demand-3 n counts list accepted =
+    let (events, stand) = from-fresh n list accepted in
+    progress-carries n (after (freshTable n) list) (stand .table)
+    (subst (plans.Progress n) (sym (stand .leads)) (progress n counts events (stand .accepts)))
+
+-- "a vote is open when it is yes and its database has not decided since it was cast": over the events that the list stands for, that is a yes
+-- in the table whose database has not decided
+pub open-votes : (n : Counts) → T (every (countTests n)) → (list : List Record) → Accepted (freshTable n) list
+    → (events : List Event) × (map recordOf events ≡ list) × ((c k d : ℕ) → Open n c k d (fresh n) events
+    ↔ (T (has (view n (after (freshTable n) list) (row c k votedYes)) d) × T (not (has (view n (after (freshTable n) list) (row c k decided)) d))))
+open-votes n counts list accepted =
+    let (events, stand) = from-fresh n list accepted in (
+      events,
+      stand .same,
+      λ c k d. subst (λ s. Open n c k d (fresh n) events ↔ (T (has (s (row c k votedYes)) d) × T (not (has (s (row c k decided)) d))))
+          (sym (stand .leads)) (open-vote.open-votes n counts c k d events (stand .accepts)),
+    )
+
+-- so once a list has settled a result, then and after whatever more is accepted, no vote on it is open
+pub no-vote-open : (n : Counts) → T (every (countTests n)) → (c k : ℕ) (list more : List Record)
+    → Accepted (freshTable n) list → Accepted (after (freshTable n) list) more → Settled n c k (after (after (freshTable n) list) more)
+    → (events : List Event) × (map recordOf events ≡ list ++ more) × ((d : ℕ) → Id (n .databases) d → Open n c k d (fresh n) events → ⊥)
+no-vote-open n counts c k list more accepted later settled =
+    let (before, first) = from-fresh n list accepted in
+    let (behind, second) = stands n more (after (freshTable n) list) (first .table .counts) later in
+    let leads = second .leads ∙ ap (λ s. machine.run n s behind) (first .leads) in
+    let there : plans.Settled n c k (view n (after (after (freshTable n) list) more)) =
+    record { decidedAll = settled .decidedAll; alike = settled .alike; noneOpen = settled .noneOpen } in (
+      before ++ behind,
+      map-append recordOf before behind ∙ ap₂ {C = List Record} (λ x y. x ++ y) (first .same) (second .same),
+      open-vote.none-open n counts c k before behind (first .accepts) (subst (λ s. machine.Accepted n s behind) (first .leads) (second .accepts))
+          (subst (plans.Settled n c k) leads there),
+    )
