@@ -41,4 +41,4 @@ pub demand-2 : (n : Counts) → T (every (countTests n)) → (list : List Record
     → (events : List Event) × (map recordOf events ≡ list) × Agreement n events (view n (after (freshTable n) list))
 demand-2 n counts list accepted =
     let (events, stands) = from-fresh n list accepted in
-    (events, stands .same, subst (Agreement n events) (sym (stands .leads)) (agreement n counts events (stands .accepts)))
+    (events, stands .same, subst (Agreement n events) (sym (stands .leads)) (agreement n events (stands .accepts)))

@@ -30,7 +30,7 @@ pub demand-3 : (n : Counts) → T (every (countTests n)) → (list : List Record
 demand-3 n counts list accepted =
     let (events, stand) = from-fresh n list accepted in
     progress-carries n (after (freshTable n) list) (stand .table)
-    (subst (plans.Progress n) (sym (stand .leads)) (progress n counts events (stand .accepts)))
+    (subst (plans.Progress n) (sym (stand .leads)) (progress n events (stand .accepts)))
 
 -- "a vote is open when it is yes and its database has not decided since it was cast": over the events that the list stands for, that is a yes
 -- in the table whose database has not decided
@@ -42,7 +42,7 @@ open-votes n counts list accepted =
       events,
       stand .same,
       λ c k d. subst (λ s. Open n c k d (fresh n) events ↔ (T (has (s (row c k votedYes)) d) × T (not (has (s (row c k decided)) d))))
-          (sym (stand .leads)) (open-vote.open-votes n counts c k d events (stand .accepts)),
+          (sym (stand .leads)) (open-vote.open-votes n c k d events (stand .accepts)),
     )
 
 -- so once a list has settled a result, then and after whatever more is accepted, no vote on it is open
@@ -57,6 +57,6 @@ no-vote-open n counts c k list more accepted later settled =
     record { decidedAll = settled .decidedAll; alike = settled .alike; noneOpen = settled .noneOpen } in (
       before ++ behind,
       map-append recordOf before behind ∙ ap₂ {C = List Record} (λ x y. x ++ y) (first .same) (second .same),
-      open-vote.none-open n counts c k before behind (first .accepts) (subst (λ s. machine.Accepted n s behind) (first .leads) (second .accepts))
+      open-vote.none-open n c k before behind (first .accepts) (subst (λ s. machine.Accepted n s behind) (first .leads) (second .accepts))
           (subst (plans.Settled n c k) leads there),
     )

@@ -1,11 +1,13 @@
--- The history invariant: the accepted events that lie behind a request, a claim and a computed value; and that the machine keeps it.
+-- The history invariant: the accepted events that lie behind a request, a claim and a computed value, and that a value is computed once;
+-- and that the machine keeps it.
 use mathlib.Core.Bool.{cond}
-use mathlib.Core.List.{List, [], _∷_, _++_}
-use mathlib.Core.Path.{_≡_}
+use mathlib.Core.List.{List, [], _∷_, _++_, append-nil}
+use mathlib.Core.Logic.{_⊎_, inl, inr}
+use mathlib.Core.Path.{_≡_, refl, subst, _∙_}
 use Prim.Native.Nat.{ℕ, _≤_, _<_}
 use native.Mathlib.Omega.{arith}
 use lib.Dec.{eqb, eqb→eq}
-use Rattle.lists.proofs.Choice.{by-bool, by-eq, inside-low}
+use Rattle.lists.proofs.Choice.{by-bool, inside-low}
 use Rattle.masks.proofs.Laws.{has-positive}
 use Rattle.registers.proofs.Laws.{claim-elim}
 use Rattle.protocol.specs.declared.Counts.{Counts}
@@ -14,40 +16,58 @@ use Rattle.protocol.specs.Events.{Event, issue, timeout, request-arrives
 use Rattle.protocol.specs.Rules.{requestRule, computeRule}
 use Rattle.protocol.specs.Machine.{next, Met}
 use Rattle.protocol.specs.Agreement.{InOrder, none, skip, take}
-use Rattle.protocol.proofs.Store.{Waits, on-row, result-elim}
-use Rattle.protocol.proofs.RowSteps.{Rows}
-use Rattle.protocol.proofs.Clients.{Clients}
+use Rattle.protocol.proofs.Store.{Waits, on-row, at-row, result-elim}
+use Rattle.protocol.proofs.RowSteps.{Rows, grows-step}
+use Rattle.protocol.proofs.Clients.{Clients, sent-reached, owned-reached}
 
 -- ---- events in order
 
+in-append : {wanted list more rest : List Event} → InOrder wanted list → InOrder more rest → InOrder (wanted ++ more) (list ++ rest)
+in-append none g = g
+in-append (skip h) g = skip (in-append h g)
+in-append (take h) g = take (in-append h g)
+
 in-longer : {wanted list : List Event} (e : Event) → InOrder wanted list → InOrder wanted (list ++ (e ∷ []))
-in-longer e none = skip none
-in-longer e (skip h) = skip (in-longer e h)
-in-longer e (take h) = take (in-longer e h)
+in-longer e h = rw append-nil at (in-append h (skip {e = e} none))
 
 in-last : {wanted list : List Event} (e : Event) → InOrder wanted list → InOrder (wanted ++ (e ∷ [])) (list ++ (e ∷ []))
-in-last e none = take none
-in-last e (skip h) = skip (in-last e h)
-in-last e (take h) = take (in-last e h)
+in-last e h = in-append h (take none)
 
 in-any : (list : List Event) → InOrder [] list
 in-any [] = none
 in-any (e ∷ list) = skip (in-any list)
+
+pub nowhere : (x : Event) → InOrder (x ∷ []) [] → ⊥
+nowhere x h = elim h [ ]
+
+-- one event of a longer list: it stood in the list before, or it is the last
+in-split : (x e : Event) (list : List Event) → InOrder (x ∷ []) (list ++ (e ∷ [])) → InOrder (x ∷ []) list ⊎ (x ≡ e)
+in-split x e [] (skip h) = absurd (nowhere x h)
+in-split x e [] (take h) = inr refl
+in-split x e (y ∷ list) (skip h) = elim (in-split x e list h) [ inl before ↦ inl (skip before) | inr last ↦ inr last ]
+in-split x e (y ∷ list) (take h) = inl (take (in-any list))
 
 -- ---- the invariant
 
 -- how the result (c, k) came about: the request q was issued, arrived at the owner, and the owner computed
 abbrev pub Traced : List Event → ℕ → ℕ → ℕ → Row → Type 0
 Traced list q c k r = record {
+  -- a server claims a request that was sent, and it is sent once it is issued
   claimed : 1 ≤ k → 0 < r owner → InOrder (issue c q ∷ request-arrives c k (r owner) ∷ []) list;
+  -- the owner computes, and stays owner
   worked : 1 ≤ k → 0 < r computed → InOrder (issue c q ∷ request-arrives c k (r owner) ∷ compute c k (r owner) (r computed) ∷ []) list;
 }
 
 abbrev pub History : List Event → State → Type 0
 History list s = record {
+  -- a client issues once, and its request is kept
   issued : (c : ℕ) → 0 < s (phase c) → InOrder (issue c (s (request c)) ∷ []) list;
   traced : (c k : ℕ) → Traced list (s (request c)) c k (rowOf s c k);
 }
+
+-- what was computed for a result is what its row holds: a server computes where nothing was computed, and what it computed stays
+abbrev pub Once : List Event → State → Type 0
+Once list s = (c k i v : ℕ) → InOrder (compute c k i v ∷ []) list → (0 < v) × (s (row c k computed) ≡ v)
 
 -- ---- every step keeps it
 
@@ -62,17 +82,9 @@ module _ (n : Counts) (list : List Event) (s : State) (rows : Rows n s) (clients
     };
   }
 
-  -- what was sent was issued before
-  sent-issued : (c k : ℕ) → 1 ≤ k → 0 < s (row c k sent) → 0 < s (phase c)
-  sent-issued c k low h =
-      by-eq (s (phase c)) 0
-      (λ e. absurd (omega (arith, clients c .future k (omega (arith, clients c .idle e)))))
-      (λ q. omega (arith, q))
-
-  -- so nothing is claimed before the request
+  -- nothing is claimed before the request
   unclaimed : (c k : ℕ) → s (phase c) ≡ 0 → 1 ≤ k → 0 < s (row c k owner) → ⊥
-  unclaimed c k z low h =
-      omega (arith, sent-issued c k low (has-positive (s (row c k sent)) (s (row c k owner)) (rows c k .claim .owner-sent h)))
+  unclaimed c k z low h = omega (arith, owned-reached n s rows clients c k low h)
 
   pub history-step : (e : Event) → Met n s e → History (list ++ (e ∷ [])) (next n s e)
   unfolding next
@@ -101,7 +113,7 @@ module _ (n : Counts) (list : List Event) (s : State) (rows : Rows n s) (clients
             (claim-elim (λ o. Traced after (s (request c)) c k (storeFields (rowOf s c k) ((owner, o) ∷ []))) (s (row c k owner)) i
             (λ z. record {
               claimed = λ low h. in-last (request-arrives c k i)
-                  (history .issued c (sent-issued c k low (has-positive (s (row c k sent)) i (m .post .0))));
+                  (history .issued c (sent-reached n s rows clients c k low (has-positive (s (row c k sent)) i (m .post .0)) .0));
               worked = λ low h. absurd (omega (arith, rows c k .claim .computed-owner h));
             })
             (λ h. old .traced c k));
@@ -131,7 +143,7 @@ module _ (n : Counts) (list : List Event) (s : State) (rows : Rows n s) (clients
   history-step (ack-arrives c k i d) m = longer (ack-arrives c k i d)
   history-step (result-arrives c k i) m =
       result-elim (λ ws. History after (storeAll s ws)) n s c k i
-      old (λ waits one. moved 2 waits) (λ waits other. moved 3 waits) (λ waits other. old)
+      (λ idle. old) (λ waits one. moved 2 waits) (λ waits other. moved 3 waits) (λ waits other more. old)
     where
       after : List Event
       after = list ++ (result-arrives c k i ∷ [])
@@ -140,9 +152,9 @@ module _ (n : Counts) (list : List Event) (s : State) (rows : Rows n s) (clients
       old = longer (result-arrives c k i)
 
       -- a client that waits has issued its request, whatever its next phase
-      moved : (ph : ℕ) → Waits s c k → History after (store s (phase c) ph)
-      moved ph waits = record {
-        issued = λ x. by-bool (λ b. 0 < cond b ph (s (phase x)) → InOrder (issue x (s (request x)) ∷ []) after) (eqb c x)
+      moved : (last : ℕ) → Waits s c k → History after (store s (phase c) last)
+      moved last waits = record {
+        issued = λ x. by-bool (λ b. 0 < cond b last (s (phase x)) → InOrder (issue x (s (request x)) ∷ []) after) (eqb c x)
             (λ t h. old .issued x (rw (← eqb→eq c x t) (omega arith))) (old .issued x);
         traced = old .traced;
       }
@@ -150,3 +162,19 @@ module _ (n : Counts) (list : List Event) (s : State) (rows : Rows n s) (clients
   history-step (database-crashes d) m = longer (database-crashes d)
   history-step (client-crashes c) m = longer (client-crashes c)
   history-step (database-recovers d) m = longer (database-recovers d)
+
+module _ (n : Counts) (list : List Event) (s : State) (rows : Rows n s) (once : Once list s) where
+  computed-now : (c k i v : ℕ) → Met n s (compute c k i v) → (0 < v) × (next n s (compute c k i v) (row c k computed) ≡ v)
+  unfolding next
+  computed-now c k i v m = (
+    inside-low 65535 v (m .fit .1 .1 .1 .1 .0),
+    at-row (λ r. r computed ≡ v) s c k (computeRule i v (rowOf s c k) .writes) refl,
+  )
+
+  pub once-step : (e : Event) → Met n s e → Once (list ++ (e ∷ [])) (next n s e)
+  once-step e m c k i v h =
+      elim (in-split (compute c k i v) e list h) [
+        | inl before ↦ let old = once c k i v before in
+            (old .0, grows-step n s rows e m c k .same-computed (rw (old .1) (old .0)) ∙ old .1)
+        | inr last ↦ subst (λ x. Met n s x → (0 < v) × (next n s x (row c k computed) ≡ v)) last (computed-now c k i v) m
+      ]

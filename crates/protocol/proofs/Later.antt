@@ -1,5 +1,5 @@
 -- What lasts along a list of events: rows and clients in order, what a row once held, an attempt left behind, a server that is up, and its suspicion.
-use mathlib.Core.Bool.{cond, _&&_}
+use mathlib.Core.Bool.{cond}
 use mathlib.Core.List.{List, [], _∷_, _++_}
 use mathlib.Core.Path.{_≡_, refl, ap, ap₂}
 use Prim.Native.Nat.{ℕ, suc, _≤_, _<_}
@@ -10,7 +10,7 @@ use Rattle.lists.proofs.Choice.{by-cond, by-bool, by-eq}
 use Rattle.masks.specs.Mask.{has}
 use Rattle.masks.proofs.Laws.{keep, has-without-other}
 use Rattle.protocol.specs.declared.Counts.{Counts}
-use Rattle.protocol.specs.Cells.{State, rowOf, storeAll, serverUp, suspects, phase, attempt, row, outcome}
+use Rattle.protocol.specs.Cells.{State, rowOf, storeAll, serverUp, suspects, phase, attempt}
 use Rattle.protocol.specs.Events.{Event, issue, timeout, request-arrives, compute, prepare-arrives, vote-arrives, ready-arrives, write, suspect, trust, clean, decide-arrives, ack-arrives, result-arrives, server-crashes, database-crashes, client-crashes, database-recovers}
 use Rattle.protocol.specs.Machine.{next, run, Accepted, Met}
 use Rattle.protocol.specs.Progress.{Never, Freed}
@@ -100,12 +100,12 @@ module _ (n : Counts) (c k : ℕ) where
   past-step s (decide-arrives x y i d) m past = past
   past-step s (ack-arrives x y i d) m past = past
   past-step s (result-arrives x y i) m past =
-      result-elim (λ ws. Past (storeAll s ws)) n s x y i past
+      result-elim (λ ws. Past (storeAll s ws)) n s x y i (λ idle. past)
       (λ waits commit. by-cond (λ itsPhase. Beyond k itsPhase (s (attempt c))) (eqb x c) 2 _
       (λ t. finished k 2 (s (attempt c)) (omega arith) (past .1)) (λ t. past))
       (λ waits abort. by-cond (λ itsPhase. Beyond k itsPhase (s (attempt c))) (eqb x c) 3 _
       (λ t. finished k 3 (s (attempt c)) (omega arith) (past .1)) (λ t. past))
-      (λ waits abort. by-cond (Beyond k (s (phase c))) (eqb x c) (suc y) _
+      (λ waits abort more. by-cond (Beyond k (s (phase c))) (eqb x c) (suc y) _
       (λ t. let later : k < suc y = omega (arith, rw (eqb→eq x c t) at (waits .1)) in (past .0, omega arith, λ one. later)) (λ t. past))
   past-step s (server-crashes i) m past = past
   past-step s (database-crashes d) m past = past
@@ -119,18 +119,11 @@ module _ (n : Counts) (c k : ℕ) where
   pub result-past : (s : State) (i : ℕ) → 1 ≤ s (phase c) → k ≤ s (attempt c) → Past (next n s (result-arrives c k i))
   unfolding next
   result-past s i issued come =
-      by-cond (λ ws. Past (storeAll s ws)) (eqb (s (phase c)) 1 && eqb (s (attempt c)) k) _ []
-      (λ t. by-cond (λ ws. Past (storeAll s ws)) (eqb (s (row c k outcome)) 1) _ _
-      (λ u. rw (eq-eqb c c refl) (finished k 2 (s (attempt c)) (omega arith) come))
-      (λ u. by-cond (λ ws. Past (storeAll s ws)) (eqb k (n .attempts)) _ _
-      (λ w. rw (eq-eqb c c refl) (finished k 3 (s (attempt c)) (omega arith) come))
-      (λ w. rw (eq-eqb c c refl) (issued, omega arith, λ one. omega arith))))
-      (λ t. (
-        issued,
-        come,
-        λ one. by-eq (s (attempt c)) k
-            (λ now. absurd (rw (eq-eqb (s (phase c)) 1 one, eq-eqb (s (attempt c)) k now) at t)) (λ other. omega arith),
-      ))
+      result-elim (λ ws. Past (storeAll s ws)) n s c k i
+      (λ idle. (issued, come, λ one. by-eq (s (attempt c)) k (λ now. absurd (idle (one, now))) (λ other. omega arith)))
+      (λ waits commit. rw (eq-eqb c c refl) (finished k 2 (s (attempt c)) (omega arith) come))
+      (λ waits abort. rw (eq-eqb c c refl) (finished k 3 (s (attempt c)) (omega arith) come))
+      (λ waits abort more. rw (eq-eqb c c refl) (issued, omega arith, λ one. omega arith))
 
 -- ---- a server stays up where it does not crash, and keeps a suspicion where it does not trust again
 
@@ -168,8 +161,8 @@ module _ (n : Counts) (i : ℕ) where
   server-step s (ack-arrives c k j d) = kept s (ack-arrives c k j d)
   server-step s (result-arrives c k j) =
       let still = kept s (result-arrives c k j) in
-      result-elim (λ ws. ServerKeeps s (result-arrives c k j) (storeAll s ws)) n s c k j still
-      (λ waits commit. still) (λ waits abort. still) (λ waits abort. still)
+      result-elim (λ ws. ServerKeeps s (result-arrives c k j) (storeAll s ws)) n s c k j
+      (λ idle. still) (λ waits commit. still) (λ waits abort. still) (λ waits abort more. still)
   server-step s (server-crashes j) = (
     λ stays up. by-cond (λ x. x ≡ 1) (eqb j i) 0 _ (λ t. absurd (stays (ap server-crashes (eqb→eq j i t)))) (λ t. up),
     λ o stays suspected. suspected,

@@ -1,10 +1,13 @@
+pub mod Tests
 pub mod Names
 pub mod Store
 pub mod Records
 pub mod Range
 pub mod Acceptance
-pub mod Soundness
 pub mod Rows
+pub mod RowRules
+pub mod Limits
+pub mod Soundness
 pub mod RowSteps
 pub mod Clients
 pub mod History

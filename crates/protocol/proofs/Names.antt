@@ -1,13 +1,13 @@
 -- Names are told apart by what `same` compares: two names with the same tag, server, attempt and party are one.
 use mathlib.Core.Path.{_≡_, refl, sym, _∙_}
-use mathlib.Core.Bool.{Bool, _&&_}
+use mathlib.Core.Bool.{_&&_}
 use mathlib.Core.List.{List, [], _∷_}
 use Prim.Native.Nat.{ℕ}
-use lib.Dec.{T, eqb, eqb→eq, eqb-refl}
+use lib.Dec.{T, eqb}
 use lib.ListN.{getD}
-use Rattle.lists.proofs.Choice.{and-left, and-right, both}
 use Rattle.protocol.specs.Cells.{Field, owner, outcome, value, computed, sent, voted, votedYes, heard, heardYes, written, terminating, decided, committed, acked, known, fieldTag, fieldServer, sameField}
 use Rattle.protocol.specs.Cells.{Name, serverUp, suspects, databaseUp, ready, clientUp, phase, attempt, request, delivered, row, tag, serverOf, attemptOf, partyOf, same}
+use Rattle.protocol.proofs.Tests.{split, join, split-both, join-both}
 
 -- ---- the fields by their tags
 
@@ -83,34 +83,23 @@ name-is (row c k f) = row-is c k f
 
 -- ---- what `same` says
 
-split : (a b : ℕ) (rest : Bool) → T (eqb a b && rest) → (a ≡ b) × T rest
-split a b rest t = (eqb→eq a b (and-left (eqb a b) rest t), and-right (eqb a b) rest t)
-
-join : (a b : ℕ) (rest : Bool) → a ≡ b → T rest → T (eqb a b && rest)
-join a b rest e t = both (eqb a b) rest (rw e (eqb-refl b)) t
-
-equal-eqb : (a b : ℕ) → a ≡ b → T (eqb a b)
-equal-eqb a b e = rw e (eqb-refl b)
-
 pub same-equal : (m k : Name) → T (same m k) → m ≡ k
 same-equal m k t =
     let (tags, more) = split (tag m) (tag k) (eqb (serverOf m) (serverOf k) && (eqb (attemptOf m) (attemptOf k) && eqb (partyOf m) (partyOf k))) t in
     let (servers, rest) = split (serverOf m) (serverOf k) (eqb (attemptOf m) (attemptOf k) && eqb (partyOf m) (partyOf k)) more in
-    let (attempts, last) = split (attemptOf m) (attemptOf k) (eqb (partyOf m) (partyOf k)) rest in
-    let parties = eqb→eq (partyOf m) (partyOf k) last in
+    let (attempts, parties) = split-both (attemptOf m) (attemptOf k) (partyOf m) (partyOf k) rest in
     name-is m ∙ (λ j. nameAt (tags j) (servers j) (attempts j) (parties j)) ∙ sym (name-is k)
 
 pub equal-same : (m k : Name) → tag m ≡ tag k → serverOf m ≡ serverOf k → attemptOf m ≡ attemptOf k → partyOf m ≡ partyOf k → T (same m k)
 equal-same m k tags servers attempts parties =
     join (tag m) (tag k) (eqb (serverOf m) (serverOf k) && (eqb (attemptOf m) (attemptOf k) && eqb (partyOf m) (partyOf k))) tags
     (join (serverOf m) (serverOf k) (eqb (attemptOf m) (attemptOf k) && eqb (partyOf m) (partyOf k)) servers
-    (join (attemptOf m) (attemptOf k) (eqb (partyOf m) (partyOf k)) attempts (equal-eqb (partyOf m) (partyOf k) parties)))
+    (join-both (attemptOf m) (attemptOf k) (partyOf m) (partyOf k) attempts parties))
 
 pub same-field-equal : (f g : Field) → T (sameField f g) → f ≡ g
 same-field-equal f g t =
-    let (tags, last) = split (fieldTag f) (fieldTag g) (eqb (fieldServer f) (fieldServer g)) t in
-    let servers = eqb→eq (fieldServer f) (fieldServer g) last in
+    let (tags, servers) = split-both (fieldTag f) (fieldTag g) (fieldServer f) (fieldServer g) t in
     field-is f ∙ (λ j. fieldAt (tags j) (servers j)) ∙ sym (field-is g)
 
 pub equal-same-field : (f g : Field) → fieldTag f ≡ fieldTag g → fieldServer f ≡ fieldServer g → T (sameField f g)
-equal-same-field f g tags servers = join (fieldTag f) (fieldTag g) (eqb (fieldServer f) (fieldServer g)) tags (equal-eqb (fieldServer f) (fieldServer g) servers)
+equal-same-field f g = join-both (fieldTag f) (fieldTag g) (fieldServer f) (fieldServer g)

@@ -4,7 +4,6 @@ use mathlib.Core.List.{List, [], _∷_, _++_}
 use mathlib.Core.Logic.{inl, inr, _↔_}
 use Prim.Native.Nat.{ℕ}
 use lib.Dec.{T, eqb, T-not, not-T}
-use Rattle.lists.specs.Tests.{every}
 use Rattle.lists.proofs.Choice.{by-cond, by-both, and-right}
 use Rattle.masks.specs.Mask.{has}
 use Rattle.masks.proofs.Laws.{has-zero, put-elim}
@@ -12,7 +11,6 @@ use Rattle.protocol.specs.declared.Counts.{Counts}
 use Rattle.protocol.specs.Cells.{State, Row, rowOf, storeAll, storeFields, fresh, row, voted, votedYes, decided}
 use Rattle.protocol.specs.Events.{Event, issue, timeout, request-arrives, compute, prepare-arrives, vote-arrives, ready-arrives, write, suspect, trust, clean, decide-arrives, ack-arrives, result-arrives, server-crashes, database-crashes, client-crashes, database-recovers}
 use Rattle.protocol.specs.Rules.{prepareRule}
-use Rattle.protocol.specs.Numbers.{countTests}
 use Rattle.protocol.specs.Machine.{next, run, Accepted}
 use Rattle.protocol.specs.Agreement.{Id}
 use Rattle.protocol.specs.Progress.{Settled, Undecided, Open}
@@ -62,7 +60,7 @@ module _ (n : Counts) (c k d : ℕ) where
   cast-fair s (ack-arrives x y i p) f t = no-cast s f t
   cast-fair s (result-arrives x y i) f t =
       result-elim (λ ws. T (saidYes (storeAll s ws)) → T (not (hasDecided (storeAll s ws)))) n s x y i
-      (no-cast s f) (λ waits commit. no-cast s f) (λ waits abort. no-cast s f) (λ waits abort. no-cast s f) t
+      (λ idle. no-cast s f) (λ waits commit. no-cast s f) (λ waits abort. no-cast s f) (λ waits abort more. no-cast s f) t
   cast-fair s (server-crashes i) f t = no-cast s f t
   cast-fair s (database-crashes p) f t = no-cast s f t
   cast-fair s (client-crashes x) f t = no-cast s f t
@@ -110,17 +108,17 @@ module _ (n : Counts) (c k d : ℕ) where
       by-both (λ b. Open n c k d s (e ∷ list)) (saidYes q)
       (λ u. inl ((f, u), end-undecided list q (a .1) after w)) (λ u. inr (end-open list q (a .1) after u t w))
 
-pub open-votes : (n : Counts) → T (every (countTests n)) → (c k d : ℕ) → (list : List Event) → Accepted n (fresh n) list
+pub open-votes : (n : Counts) (c k d : ℕ) (list : List Event) → Accepted n (fresh n) list
     → Open n c k d (fresh n) list ↔ (T (has (run n (fresh n) list (row c k votedYes)) d) × T (not (has (run n (fresh n) list (row c k decided)) d)))
 unfolding fresh
-open-votes n counts c k d list a =
+open-votes n c k d list a =
     let since = since-now n (fresh n) (reached-fresh n .rows) (reached-fresh n .clients) in
     (open-end n c k d list (fresh n) a since, λ r. end-open n c k d list (fresh n) a since (not-T (has 0 d) (has-zero d)) (r .0) (r .1))
 
 -- once a result is settled, none of its votes is open
-pub none-open : (n : Counts) → T (every (countTests n)) → (c k : ℕ) → (list more : List Event)
+pub none-open : (n : Counts) (c k : ℕ) (list more : List Event)
     → Accepted n (fresh n) list → Accepted n (run n (fresh n) list) more → Settled n c k (run n (run n (fresh n) list) more)
     → (d : ℕ) → Id (n .databases) d → Open n c k d (fresh n) (list ++ more) → ⊥
-none-open n counts c k list more first second settled d database is-open =
-    let end = open-votes n counts c k d (list ++ more) (accepted-append n list (fresh n) more first second) .0 is-open in
+none-open n c k list more first second settled d database is-open =
+    let end = open-votes n c k d (list ++ more) (accepted-append n list (fresh n) more first second) .0 is-open in
     settled .noneOpen d database (rw (run-append n list (fresh n) more) at (end .0)) (rw (run-append n list (fresh n) more) at (end .1))

@@ -1,15 +1,8 @@
--- How a plan goes on: one event for each database, in any order and each after any gap, and the tests that an event of a plan passes.
-use mathlib.Core.Bool.{not, cond}
+-- How a plan goes on: one event for each database, in any order and each after any gap.
 use mathlib.Core.List.{List, [], _∷_}
 use mathlib.Core.Logic.{_⊎_, inl, inr}
-use mathlib.Core.Path.{_≡_, refl}
-use Prim.Native.Nat.{ℕ, _≤_}
-use borrow.Author.Tests.{eq-eqb, ne-eqb}
-use lib.Dec.{T, eqb}
-use Rattle.lists.specs.Tests.{inside}
-use Rattle.lists.proofs.Choice.{true-T, false-T, in-inside}
-use Rattle.masks.specs.Mask.{has, with}
-use Rattle.masks.proofs.Laws.{mark}
+use mathlib.Core.Path.{_≡_}
+use Prim.Native.Nat.{ℕ}
 use Rattle.protocol.specs.declared.Counts.{Counts}
 use Rattle.protocol.specs.Cells.{State}
 use Rattle.protocol.specs.Events.{Event}
@@ -17,24 +10,6 @@ use Rattle.protocol.specs.Numbers.{refusal}
 use Rattle.protocol.specs.Machine.{next, run, Accepted}
 use Rattle.protocol.specs.Agreement.{Id}
 use Rattle.protocol.specs.Progress.{In, here, there, Covers, ThenEach}
-
--- ---- the tests of an event
-
-pub within : (most id : ℕ) → Id most id → T (inside most id)
-within most id range = in-inside most id (range .0) (range .1)
-
-pub is-one : (x : ℕ) → x ≡ 1 → T (eqb x 1)
-is-one x e = true-T (eqb x 1) (eq-eqb x 1 e)
-
-pub unequal : (x y : ℕ) → (x ≡ y → ⊥) → T (not (eqb x y))
-unequal x y other = false-T (eqb x y) (ne-eqb x y other)
-
--- ---- a party put into the mask of server i
-
-pub mark-at : (mask i party : ℕ) → 1 ≤ party → T (has (cond (eqb i i) (with mask party) mask) party)
-mark-at mask i party low = rw (eq-eqb i i refl) (mark mask party low)
-
--- ---- one event for each database
 
 -- the event for database d in a state q to which a gap led from s: it is accepted, what holds at each event holds on, d is done, and who was done
 -- in s stays done

@@ -1,40 +1,44 @@
 -- Demand 3: after any gap each event of the plan is accepted, and the plan leaves the result settled for good and its client freed.
 -- The plan is shown from its last event to its first.
-use mathlib.Core.Bool.{not}
+use mathlib.Core.Bool.{not, cond}
 use mathlib.Core.List.{List}
 use mathlib.Core.Path.{_≡_, refl, sym, _∙_}
 use Prim.Native.Nat.{ℕ, _≤_, _<_}
-use native.Mathlib.Decide.{decLe}
 use native.Mathlib.Omega.{arith}
-use lib.Dec.{T, lt→ltb, T-not}
-use Rattle.lists.specs.Tests.{every, inside}
-use Rattle.lists.proofs.Choice.{by-cond, by-eq, not-not}
+use borrow.Author.Tests.{eq-eqb}
+use lib.Dec.{T, eqb, lt→ltb, T-not}
+use Rattle.lists.specs.Tests.{inside}
+use Rattle.lists.proofs.Choice.{by-cond, not-not}
 use Rattle.masks.specs.Mask.{has, with}
-use Rattle.masks.proofs.Laws.{has-positive, has-hasAll, mark}
+use Rattle.masks.proofs.Laws.{has-hasAll, mark}
 use Rattle.registers.specs.declared.Decision.the-variants.{Abort}
 use Rattle.registers.proofs.Laws.{offer-elim}
 use Rattle.protocol.specs.declared.Counts.{Counts}
-use Rattle.protocol.specs.Cells.{State, rowOf, fresh, serverUp, suspects, databaseUp, clientUp, phase, attempt, row}
-use Rattle.protocol.specs.Cells.{owner, outcome, value, sent, terminating, decided, acked, known}
+use Rattle.protocol.specs.Cells.{State, rowOf, fresh, serverUp, suspects, databaseUp, clientUp, row}
+use Rattle.protocol.specs.Cells.{owner, outcome, value, terminating, decided, acked, known}
 use Rattle.protocol.specs.Events.{Event, suspect, trust, clean, decide-arrives, ack-arrives, result-arrives, server-crashes}
 use Rattle.protocol.specs.Rules.{cleanRule, decideRule, ackRule}
-use Rattle.protocol.specs.Numbers.{countTests}
 use Rattle.protocol.specs.Machine.{next, run, Accepted, Met}
 use Rattle.protocol.specs.Agreement.{Id}
 use Rattle.protocol.specs.Progress.{Never, Covers, Then, ThenEach, Settled, Freed, Decided, Progress}
+use Rattle.protocol.proofs.Tests.{_and_, equal, unequal, id-inside}
 use Rattle.protocol.proofs.Store.{at-row}
 use Rattle.protocol.proofs.Acceptance.{meets}
-use Rattle.protocol.proofs.Rows.{alike}
+use Rattle.protocol.proofs.Rows.{Everyone, alike}
 use Rattle.protocol.proofs.RowSteps.{Rows}
-use Rattle.protocol.proofs.Clients.{Clients}
+use Rattle.protocol.proofs.Clients.{Clients, owned-reached}
 use Rattle.protocol.proofs.Agreement.{reached-fresh}
 use Rattle.protocol.proofs.Later.{Since, since-step, since-run, result-past, past-freed, up-run, suspects-run}
-use Rattle.protocol.proofs.Plan.{within, is-one, unequal, mark-at, Advance, then-each}
+use Rattle.protocol.proofs.Plan.{Advance, then-each}
+
+-- a party put into the mask of server i
+mark-at : (mask i party : ℕ) → 1 ≤ party → T (has (cond (eqb i i) (with mask party) mask) party)
+mark-at mask i party low = rw (eq-eqb i i refl) (mark mask party low)
 
 module _ (n : Counts) (c k i : ℕ) (is-client : Id (n .clients) c) (is-attempt : Id (n .attempts) k) (is-server : Id (n .servers) i) where
   -- the fields of an event that names the client, the attempt and the server
   named : {Rest : Type 0} → Rest → T (inside (n .clients) c) × (T (inside (n .attempts) k) × (T (inside (n .servers) i) × Rest))
-  named rest = (within (n .clients) c is-client, (within (n .attempts) k is-attempt, (within (n .servers) i is-server, rest)))
+  named rest = id-inside (n .clients) c is-client and id-inside (n .attempts) k is-attempt and id-inside (n .servers) i is-server and rest
 
   -- ---- what lasts from the cleaning on
 
@@ -60,18 +64,10 @@ module _ (n : Counts) (c k i : ℕ) (is-client : Id (n .clients) c) (is-attempt 
 
   -- ---- the result
 
-  -- the client has come to an attempt that is owned: its request was sent
-  come : (s : State) → Cleaned s → (1 ≤ s (phase c)) × (k ≤ s (attempt c))
-  come s cleaned =
-      let called = has-positive (s (row c k sent)) (s (row c k owner)) (cleaned .rows c k .claim .owner-sent (cleaned .owned)) in
-      let reached : k ≤ s (attempt c) =
-      elim (decLe k (s (attempt c))) [ yes low ↦ low | no high ↦ absurd (omega (arith, cleaned .clients c .future k (omega arith))) ] in
-      (by-eq (s (phase c)) 0 (λ idle. absurd (omega (arith, cleaned .clients c .idle idle))) (λ busy. omega arith), reached)
-
   abbrev Result : State → Type 0
   Result = Then n (λ gap q. q (clientUp c) ≡ 1) (result-arrives c k i) (Freed n c k)
 
-  result : (s : State) → Cleaned s → ((d : ℕ) → Id (n .databases) d → T (has (s (row c k (known i))) d)) → Result s
+  result : (s : State) → Cleaned s → Everyone n (s (row c k (known i))) → Result s
   result s cleaned knows gap accepted up =
       let e = result-arrives c k i in
       let q = run n s gap in
@@ -79,12 +75,12 @@ module _ (n : Counts) (c k i : ℕ) (is-client : Id (n .clients) c) (is-attempt 
       let still = cleaned-since s q cleaned since in
       let all-known = has-hasAll (n .databases) (q (row c k (known i))) (λ d low high. since .grown c k .grow-known i d (knows d (low, high))) in
       let m : Met n q e = record {
-        fit = named (tt, (tt, tt));
-        live = (is-one (q (clientUp c)) up, tt);
-        post = (lt→ltb 0 (q (row c k outcome)) (still .ruled), (all-known, tt));
+        fit = named (tt and tt and tt);
+        live = (equal (q (clientUp c)) 1 up, tt);
+        post = lt→ltb 0 (q (row c k outcome)) (still .ruled) and all-known and tt;
         must = tt;
       } in
-      let at = come q still in
+      let at = owned-reached n q (still .rows) (still .clients) c k (is-attempt .0) (still .owned) in
       (meets n q e m, past-freed n c k (next n q e) (result-past n c k q i (at .0) (at .1)))
 
   -- ---- the acknowledgements
@@ -93,7 +89,7 @@ module _ (n : Counts) (c k i : ℕ) (is-client : Id (n .clients) c) (is-attempt 
   record Acked (s : State) : Type 0 where
     cleaned : Cleaned s
     up : s (serverUp i) ≡ 1
-    acks : (d : ℕ) → Id (n .databases) d → T (has (s (row c k (acked i))) d)
+    acks : Everyone n (s (row c k (acked i)))
 
   abbrev Knows : State → ℕ → Type 0
   Knows s d = T (has (s (row c k (known i))) d)
@@ -111,8 +107,8 @@ module _ (n : Counts) (c k i : ℕ) (is-client : Id (n .clients) c) (is-attempt 
       let before = after s (state .cleaned) gap accepted in
       let up = up-run n i gap s uncrashed (state .up) in
       let m : Met n q e = record {
-        fit = named (within (n .databases) d database, (tt, tt));
-        live = (is-one (q (serverUp i)) up, tt);
+        fit = named (id-inside (n .databases) d database and tt and tt);
+        live = (equal (q (serverUp i)) 1 up, tt);
         post = (before .grown c k .grow-acked i d (state .acks d database), tt);
         must = tt;
       } in
@@ -158,9 +154,9 @@ module _ (n : Counts) (c k i : ℕ) (is-client : Id (n .clients) c) (is-attempt 
       let before = after s cleaned gap accepted in
       let still = cleaned-since s q cleaned before in
       let m : Met n q e = record {
-        fit = named (within (n .databases) d database, (tt, tt));
-        live = (is-one (q (databaseUp d)) up, tt);
-        post = (still .sender, (lt→ltb 0 (q (row c k outcome)) (still .ruled), tt));
+        fit = named (id-inside (n .databases) d database and tt and tt);
+        live = (equal (q (databaseUp d)) 1 up, tt);
+        post = still .sender and lt→ltb 0 (q (row c k outcome)) (still .ruled) and tt;
         must = tt;
       } in
       let since = since-step n s q e m before in
@@ -172,7 +168,7 @@ module _ (n : Counts) (c k i : ℕ) (is-client : Id (n .clients) c) (is-attempt 
         stay = λ x obeyed. (grown .grow-decided x (obeyed .0), grown .grow-acked i x (obeyed .1));
       }
 
-  settled : (s : State) → Rows n s → ((d : ℕ) → Id (n .databases) d → T (has (s (row c k decided)) d)) → Settled n c k s
+  settled : (s : State) → Rows n s → Everyone n (s (row c k decided)) → Settled n c k s
   settled s rows all = record {
     decidedAll = all;
     alike = λ d e first second. alike n (rowOf s c k) (rows c k) d e (all d first) (all e second);
@@ -209,13 +205,10 @@ module _ (n : Counts) (c k i : ℕ) (is-client : Id (n .clients) c) (is-attempt 
         let still : q (row c k owner) ≡ o = before .grown c k .same-owner (omega arith) ∙ owns in
         let suspects-still : T (has (q (suspects i)) (q (row c k owner))) = rw still (suspects-run n i o gap s (calm .1) suspected) in
         let m : Met n q e = record {
-          fit = named (tt, (tt, tt));
-          live = (is-one (q (serverUp i)) (up-run n i gap s (calm .0) up), tt);
+          fit = named (tt and tt and tt);
+          live = (equal (q (serverUp i)) 1 (up-run n i gap s (calm .0) up), tt);
           post = tt;
-          must = (
-            lt→ltb 0 (q (row c k owner)) (omega arith),
-            (unequal (q (row c k owner)) i (λ same. other (sym same ∙ still)), (suspects-still, tt)),
-          );
+          must = lt→ltb 0 (q (row c k owner)) (omega arith) and unequal (q (row c k owner)) i (λ same. other (sym same ∙ still)) and suspects-still and tt;
         } in
         let since = since-step n s q e m before in
         let cleaned : Cleaned (next n q e) = record {
@@ -242,8 +235,8 @@ module _ (n : Counts) (c k i : ℕ) (is-client : Id (n .clients) c) (is-attempt 
         let q = run n s gap in
         let still = up-run n i gap s uncrashed up in
         let m : Met n q e = record {
-          fit = (tt, (tt, (within (n .servers) i is-server, (tt, (within (n .servers) o is-owner, tt)))));
-          live = (is-one (q (serverUp i)) still, tt);
+          fit = tt and tt and id-inside (n .servers) i is-server and tt and id-inside (n .servers) o is-owner and tt;
+          live = (equal (q (serverUp i)) 1 still, tt);
           post = tt;
           must = (unequal i o other, tt);
         } in
@@ -251,8 +244,8 @@ module _ (n : Counts) (c k i : ℕ) (is-client : Id (n .clients) c) (is-attempt 
         let owns-still = since .grown c k .same-owner (omega arith) ∙ owns in
         (meets n q e m, cleaning (next n q e) (since .rows) (since .clients) owns-still still (suspected-now q))
 
-pub progress : (n : Counts) → T (every (countTests n)) → (list : List Event) → Accepted n (fresh n) list → Progress n (run n (fresh n) list)
-progress n counts list accepted c k i is-client is-attempt is-server owned other up ds covers =
+pub progress : (n : Counts) (list : List Event) → Accepted n (fresh n) list → Progress n (run n (fresh n) list)
+progress n list accepted c k i is-client is-attempt is-server owned other up ds covers =
     let s = run n (fresh n) list in
     let since = since-run n (fresh n) (reached-fresh n .rows) (reached-fresh n .clients) list accepted in
     let is-owner : Id (n .servers) (s (row c k owner)) = (owned, since .rows c k .claim .owner-server) in

@@ -8,9 +8,10 @@ use Rattle.protocol.specs.Cells.{sent, suspects, ready, phase, attempt, 
 use Rattle.protocol.specs.Events.{Event, issue, timeout, request-arrives, compute, prepare-arrives, vote-arrives, ready-arrives, write, suspect, trust, clean, decide-arrives, ack-arrives, result-arrives, server-crashes, database-crashes, client-crashes, database-recovers}
 use Rattle.protocol.specs.Rules.{calls, requestRule, computeRule, prepareRule, voteRule, readyRule, writeRule, cleanRule, decideRule, ackRule}
 use Rattle.protocol.specs.Machine.{next, Met}
-use Rattle.protocol.specs.Agreement.{Id}
+use Rattle.protocol.proofs.Tests.{inside-id}
 use Rattle.protocol.proofs.Store.{on-row, result-elim}
-use Rattle.protocol.proofs.Rows.{RowInvariant, Grows, grows-refl, Keeps, calls-keep, timeout-keeps, request-keeps, compute-keeps, prepare-keeps, vote-keeps, ready-keeps, write-keeps, clean-keeps, decide-keeps, ack-keeps}
+use Rattle.protocol.proofs.Rows.{RowInvariant, Grows, grows-refl}
+use Rattle.protocol.proofs.RowRules.{Keeps, calls-keep, timeout-keeps, request-keeps, compute-keeps, prepare-keeps, vote-keeps, ready-keeps, write-keeps, clean-keeps, decide-keeps, ack-keeps}
 
 abbrev pub Rows : Counts → State → Type 0
 Rows n s = (x y : ℕ) → RowInvariant n (rowOf s x y)
@@ -36,8 +37,7 @@ module _ (n : Counts) (s : State) (rows : Rows n s) where
       touched c k ((sent, all (n .servers)) ∷ []) (timeout-keeps n (rowOf s c k) (rows c k))
   row-step (request-arrives c k i) m =
       let r = rowOf s c k in
-      let server : Id (n .servers) i = (inside-low (n .servers) i (m .fit .1 .1 .0), inside-high (n .servers) i (m .fit .1 .1 .0)) in
-      touched c k (requestRule i r .writes) (request-keeps n r (rows c k) i server (m .post))
+      touched c k (requestRule i r .writes) (request-keeps n r (rows c k) i (inside-id (n .servers) i (m .fit .1 .1 .0)) (m .post))
   row-step (compute c k i v) m =
       let r = rowOf s c k in
       touched c k (computeRule i v r .writes) (compute-keeps n r (rows c k) i v (inside-low (n .servers) i (m .fit .1 .1 .0)) (m .must))
@@ -66,8 +66,8 @@ module _ (n : Counts) (s : State) (rows : Rows n s) where
       let r = rowOf s c k in
       touched c k (ackRule i d r .writes) (ack-keeps n r (rows c k) i d (m .post))
   row-step (result-arrives c k i) m =
-      result-elim (λ ws. Kept (storeAll s ws)) n s c k i untouched (λ waits one. untouched) (λ waits other. untouched)
-      (λ waits other. on-row (λ x y. Keeps n (rowOf s x y)) (store s (attempt c) (suc k)) c (suc k) (calls (rowOf s c (suc k)))
+      result-elim (λ ws. Kept (storeAll s ws)) n s c k i (λ idle. untouched) (λ waits one. untouched) (λ waits other. untouched)
+      (λ waits other more. on-row (λ x y. Keeps n (rowOf s x y)) (store s (attempt c) (suc k)) c (suc k) (calls (rowOf s c (suc k)))
       untouched (calls-keep n (rowOf s c (suc k)) (rows c (suc k))))
   row-step (server-crashes i) m = untouched
   row-step (database-crashes d) m = untouched

@@ -1,14 +1,15 @@
 -- Laws of writes: which rows the writes to one row change, and the four ways in which a result arrives.
-use mathlib.Core.Bool.{Bool, true, false, not, cond, _&&_, and-true, and-false}
+use mathlib.Core.Bool.{Bool, true, false, cond, _&&_, and-true, and-false}
 use mathlib.Core.List.{[], _∷_}
 use mathlib.Core.Path.{_≡_, refl, subst, fun-ext, _∙_}
 use Prim.Native.Nat.{ℕ, suc}
-use lib.Dec.{T, eqb, eqb→eq, eqb-refl, T-not}
-use Rattle.lists.proofs.Choice.{by-cond, by-both, and-left, and-right, both, T-true}
+use lib.Dec.{T, eqb, eqb→eq, T-not}
+use Rattle.lists.proofs.Choice.{by-cond, by-both, T-true}
 use Rattle.protocol.specs.declared.Counts.{Counts}
 use Rattle.protocol.specs.Cells.{Field, outcome, value, phase, attempt, delivered, row, fieldTag, fieldServer, State, Row, rowOf}
 use Rattle.protocol.specs.Cells.{Writes, store, storeAll, RowWrites, storeField, storeFields, inRow}
 use Rattle.protocol.specs.Rules.{calls, resultRule}
+use Rattle.protocol.proofs.Tests.{differ, split-both, join-both}
 
 -- ---- writes to one row
 
@@ -41,20 +42,20 @@ pub on-row : (P : ℕ → ℕ → Row → Type 0) (s : State) (c k : ℕ) (ws : 
 on-row P s c k ws old new x y =
     rw (row-after s c k ws x y)
     (by-cond (P x y) (eqb k y && eqb c x) (storeFields (rowOf s x y) ws) (rowOf s x y)
-    (λ t. here (eqb→eq c x (and-right (eqb k y) (eqb c x) t)) (eqb→eq k y (and-left (eqb k y) (eqb c x) t))) (λ t. old x y))
+    (λ t. let (q, p) = split-both k y c x t in here p q) (λ t. old x y))
   where
     here : c ≡ x → k ≡ y → P x y (storeFields (rowOf s x y) ws)
     here p q = subst (λ z. P z y (storeFields (rowOf s z y) ws)) p (subst (λ z. P c z (storeFields (rowOf s c z) ws)) q new)
 
 -- the written row
 pub at-row : (P : Row → Type 0) (s : State) (c k : ℕ) (ws : RowWrites) → P (storeFields (rowOf s c k) ws) → P (rowOf (storeAll s (inRow c k ws)) c k)
-at-row P s c k ws new = rw (row-after s c k ws c k, T-true (eqb k k && eqb c c) (both (eqb k k) (eqb c c) (eqb-refl k) (eqb-refl c))) new
+at-row P s c k ws new = rw (row-after s c k ws c k, T-true (eqb k k && eqb c c) (join-both k k c c refl refl)) new
 
 -- a cell of another row
 pub off-row : (c k x y new old : ℕ) → (c ≡ x → k ≡ y → ⊥) → cond (eqb k y && eqb c x) new old ≡ old
 off-row c k x y new old other =
     by-cond (λ z. z ≡ old) (eqb k y && eqb c x) new old
-    (λ t. absurd (other (eqb→eq c x (and-right (eqb k y) (eqb c x) t)) (eqb→eq k y (and-left (eqb k y) (eqb c x) t)))) (λ t. refl)
+    (λ t. let (q, p) = split-both k y c x t in absurd (other p q)) (λ t. refl)
 
 -- ---- a result arrives: the client does not wait on it, it commits, it was the last attempt, or the next attempt begins
 
@@ -62,14 +63,11 @@ off-row c k x y new old other =
 abbrev pub Waits : State → ℕ → ℕ → Type 0
 Waits s c k = (s (phase c) ≡ 1) × (s (attempt c) ≡ k)
 
-pub differ : (a b : ℕ) → T (not (eqb a b)) → a ≡ b → ⊥
-differ a b t e = T-not (eqb a b) t (rw e (eqb-refl b))
-
 pub result-elim : (P : Writes → Type 0) (n : Counts) (s : State) (c k i : ℕ)
-    → P []
+    → ((Waits s c k → ⊥) → P [])
     → (Waits s c k → s (row c k outcome) ≡ 1 → P ((phase c, 2) ∷ (delivered c, s (row c k value)) ∷ []))
     → (Waits s c k → (s (row c k outcome) ≡ 1 → ⊥) → P ((phase c, 3) ∷ []))
-    → (Waits s c k → (s (row c k outcome) ≡ 1 → ⊥) → P ((attempt c, suc k) ∷ inRow c (suc k) (calls (rowOf s c (suc k)))))
+    → (Waits s c k → (s (row c k outcome) ≡ 1 → ⊥) → (k ≡ n .attempts → ⊥) → P ((attempt c, suc k) ∷ inRow c (suc k) (calls (rowOf s c (suc k)))))
     → P (resultRule n s c k i .writes)
 result-elim P n s c k i stays commits ends begins =
     by-cond P (eqb (s (phase c)) 1 && eqb (s (attempt c)) k) _ []
@@ -77,11 +75,8 @@ result-elim P n s c k i stays commits ends begins =
     (λ u. commits (waits t) (eqb→eq (s (row c k outcome)) 1 u))
     (λ u. by-cond P (eqb k (n .attempts)) _ _
     (λ w. ends (waits t) (differ (s (row c k outcome)) 1 u))
-    (λ w. begins (waits t) (differ (s (row c k outcome)) 1 u))))
-    (λ t. stays)
+    (λ w. begins (waits t) (differ (s (row c k outcome)) 1 u) (differ k (n .attempts) w))))
+    (λ t. stays (λ w. T-not (eqb (s (phase c)) 1 && eqb (s (attempt c)) k) t (join-both (s (phase c)) 1 (s (attempt c)) k (w .0) (w .1))))
   where
     waits : T (eqb (s (phase c)) 1 && eqb (s (attempt c)) k) → Waits s c k
-    waits t = (
-      eqb→eq (s (phase c)) 1 (and-left (eqb (s (phase c)) 1) (eqb (s (attempt c)) k) t),
-      eqb→eq (s (attempt c)) k (and-right (eqb (s (phase c)) 1) (eqb (s (attempt c)) k) t),
-    )
+    waits = split-both (s (phase c)) 1 (s (attempt c)) k

@@ -1,7 +1,7 @@
 -- The table's cells by name, a state as the number in each, and writes to it.
 use mathlib.Core.Bool.{Bool, true, false, cond, _&&_}
 use mathlib.Core.List.{List, [], _∷_}
-use Prim.Native.Nat.{ℕ, _+_}
+use Prim.Native.Nat.{ℕ}
 use lib.Dec.{eqb}
 use Rattle.lists.specs.Tests.{inside}
 use Rattle.protocol.specs.declared.Counts.{Counts}

@@ -1,7 +1,6 @@
 -- The machine: what an accepted event leads to, lists of events, and what an accepted event met.
 use mathlib.Core.Path.{_≡_}
 use mathlib.Core.List.{List, [], _∷_}
-use Prim.Native.Nat.{ℕ}
 use Rattle.lists.specs.Tests.{All}
 use Rattle.protocol.specs.declared.Counts.{Counts}
 use Rattle.protocol.specs.Cells.{State, storeAll}

@@ -1,5 +1,5 @@
 -- What each number asks: 1 the counts, 2 every cell's range, 3 the kind, 4 the fields, 5 the acting parties, 6 that the message was sent, 7 the rule's "must".
-use mathlib.Core.Bool.{Bool, true, false, not, cond, _&&_, Bool·beq}
+use mathlib.Core.Bool.{Bool, cond, Bool·beq}
 use mathlib.Core.List.{List, [], _∷_}
 use mathlib.Core.Option.{Option, none, some}
 use Prim.Native.Nat.{ℕ}
@@ -8,8 +8,8 @@ use Rattle.lists.specs.Tests.{every, each, inside}
 use Rattle.masks.specs.Mask.{all}
 use Rattle.protocol.specs.declared.Counts.{Counts}
 use Rattle.protocol.specs.declared.Event.{Event as Record}
-use Rattle.protocol.specs.Cells.{owner, outcome, value, computed, sent, voted, votedYes, heard, heardYes, written, terminating, decided, committed, acked, known}
-use Rattle.protocol.specs.Cells.{Name, serverUp, suspects, databaseUp, ready, clientUp, phase, attempt, request, delivered, row, State, Row, rowOf}
+use Rattle.protocol.specs.Cells.{owner, outcome, sent, voted, votedYes, heard, heardYes, written, terminating, decided, committed, acked, known}
+use Rattle.protocol.specs.Cells.{Name, serverUp, suspects, databaseUp, ready, clientUp, phase, attempt, State, Row, rowOf}
 use Rattle.protocol.specs.Events.{Event, issue, timeout, request-arrives, compute, prepare-arrives, vote-arrives, ready-arrives, write, suspect, trust, clean, decide-arrives, ack-arrives, result-arrives, server-crashes, database-crashes, client-crashes, database-recovers}
 use Rattle.protocol.specs.Events.{Kind, kindOf, fits, recordOf}
 use Rattle.protocol.specs.Rules.{rule}

@@ -2,7 +2,7 @@
 use mathlib.Core.Path.{_≡_}
 use mathlib.Core.Logic.{_⊎_}
 use mathlib.Core.List.{List, [], _∷_}
-use Prim.Native.Nat.{ℕ, _≤_, _<_}
+use Prim.Native.Nat.{ℕ, _<_}
 use lib.Dec.{T}
 use mathlib.Core.Bool.{not}
 use Rattle.masks.specs.Mask.{has}
@@ -66,8 +66,8 @@ module _ (n : Counts) where
   Progress s = (c k i : ℕ) → Id (n .clients) c → Id (n .attempts) k → Id (n .servers) i
       → 0 < s (row c k owner) → (i ≡ s (row c k owner) → ⊥) → s (serverUp i) ≡ 1 → (ds : List ℕ) → Covers (n .databases) ds
       → Then (λ gap q. Never (server-crashes i) gap) (suspect i (s (row c k owner)))
-          (Then (λ gap q. Never (server-crashes i) gap × Never (trust i (s (row c k owner))) gap) (clean c k i)
-          (ThenEach (λ d gap q. q (databaseUp d) ≡ 1) (decide-arrives c k i) ds (Decided c k i))) s
+      (Then (λ gap q. Never (server-crashes i) gap × Never (trust i (s (row c k owner))) gap) (clean c k i)
+      (ThenEach (λ d gap q. q (databaseUp d) ≡ 1) (decide-arrives c k i) ds (Decided c k i))) s
 
 -- ---- "A vote is open when it is yes and its database has not decided since it was cast", said of the list of events from a state on
 

@@ -1,5 +1,5 @@
 -- The 18 rules, in the paper's words and order: when the message was sent, what must hold, and what is written.
-use mathlib.Core.Bool.{Bool, true, false, not, cond, _&&_}
+use mathlib.Core.Bool.{Bool, false, not, cond, _&&_}
 use mathlib.Core.List.{List, [], _∷_}
 use Prim.Native.Nat.{ℕ, suc}
 use lib.Dec.{eqb, ltb}

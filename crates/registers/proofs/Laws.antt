@@ -222,3 +222,21 @@ held-outcome (suc zero) value = refl
 held-outcome (suc (suc outcome)) value =
     let o = suc (suc outcome) in
     rw (ne-eqb o 0 (λ e. omega arith), ne-eqb o 1 (λ e. omega arith)) (sym (lt-ltb 0 o (omega arith)))
+
+-- which cells hold which decision
+pub commit-held : (outcome value held-value : ℕ) → held outcome value ≡ Commit held-value → (outcome ≡ 1) × (value ≡ held-value)
+unfolding held
+commit-held zero value w e = let z : _≡_ {A = ℕ} 0 1 = cc in absurd (omega arith)
+commit-held (suc zero) value w e = (refl, cc)
+commit-held (suc (suc outcome)) value w e =
+    let o = suc (suc outcome) in
+    let f = rw (ne-eqb o 0 (λ q. omega arith), ne-eqb o 1 (λ q. omega arith)) at e in
+    let z : _≡_ {A = ℕ} 0 1 = cc in
+    absurd (omega arith)
+
+pub abort-held : (outcome value : ℕ) → held outcome value ≡ Abort → outcome ≡ 1 → ⊥
+unfolding held
+abort-held outcome value e one =
+    let f = rw (one) at e in
+    let z : _≡_ {A = ℕ} 0 1 = cc in
+    omega arith

@@ -1,34 +1,35 @@
 -- Room for the cells that a rule reads and writes, and the rules' writes to the parties' cells and to a lent row.
-use mathlib.Core.Path.{_≡_, refl, sym, ap, _∙_}
-use mathlib.Core.Bool.{Bool, true, false, not, cond}
+use mathlib.Core.Path.{_≡_, refl, sym, ap, _∙_, subst}
+use mathlib.Core.Bool.{Bool, true, false, not, cond, false≢true}
 use mathlib.Core.List.{List, [], _∷_}
 use Prim.Native.Nat.{ℕ, suc, _+_, _≤_, _<_}
 use native.Mathlib.Omega.{arith}
-use lib.Dec.{T, eqb, eqb→eq, eqb·suc-zero}
+use borrow.Author.Tests.{ne-eqb}
+use lib.Dec.{T, eqb, eqb→eq, eqb·suc-zero, leb→le, eqb-refl, T-not}
 use lib.ListN.{length, getD, set, length-set}
 use Rattle.lists.specs.Tests.{every, All, inside}
 use Rattle.lists.specs.Parts.{part, putBack}
 use Rattle.lists.proofs.Parts.{putBack-part}
-use Rattle.lists.proofs.Choice.{inside-low, inside-high, every-all, true-T}
+use Rattle.lists.proofs.Choice.{by-cond, by-eq, inside-low, inside-high, every-all, true-T}
 use Rattle.protocol.specs.declared.Counts.{Counts}
 use Rattle.protocol.specs.declared.Event.{Event}
-use Rattle.protocol.specs.Cells.{Name, exists, serverUp, suspects, databaseUp, ready, clientUp, phase, attempt, request, delivered}
+use Rattle.protocol.specs.Cells.{Name, row, owner, exists, serverUp, suspects, databaseUp, ready, clientUp, phase, attempt, request, delivered}
 use Rattle.protocol.specs.Cells.{Row, rowOf, storeAll, Writes, RowWrites, inRow}
 use Rattle.protocol.specs.Events.{kindOf}
 use Rattle.protocol.specs.Numbers.{fields, fieldTests, inRange}
 use Rattle.protocol.proofs.Range.{range-facts, waiting-attempt}
-use Rattle.protocol.specs.Rules.{Rule, RowRule, atResult, calls, issueRule}
+use Rattle.protocol.specs.Rules.{Rule, RowRule, atResult, calls, issueRule, requestRule, computeRule, prepareRule, voteRule, readyRule, writeRule, cleanRule, decideRule, ackRule}
 use Rattle.table.specs.Layout.{rowLength, rowStart, place, tableLength}
 use Rattle.table.specs.Table.{view, setAll, setFields, rowView}
 use Rattle.table.specs.Jobs.{Done}
 use Rattle.table.proofs.Places.{row-end, length-most}
 use Rattle.table.proofs.View.{Exist, FieldsExist, view-setAll}
-use Rattle.table.proofs.Lent.{row-view, row-fits, lent-writes}
+use Rattle.table.proofs.Lent.{row-view, row-fits, row-long, lent-writes}
 use Rattle.layout.specs.Ranged.{Ranged}
 use Rattle.layout.proofs.Laws.{ranged-tests, server-inside, database-inside, client-inside, view-cell, phase-place, attempt-place, request-place, delivered-place}
 use Rattle.gates.specs.Gates.{given}
 use Rattle.rows.specs.Rows.{stepped}
-use Rattle.rules.specs.Rules.{ruleNumber, ruled}
+use Rattle.rules.specs.Rules.{ruleNumber, ruled, ofRow, rowRule}
 
 -- ---- room
 
@@ -92,7 +93,17 @@ module _ (n : Counts) (t : List ℕ) (c k : ℕ) (long : length t ≡ tableLengt
       ∙ ap (λ x. record { number = given rule; cells = x }) (written-back (rule .writes) (exist (rowView n lent)) (eqb (given rule) 0))
       ∙ ap (λ r. ruled n t (atResult c k (ruleOf r))) (sym (row-view n t c k long cIn kIn))
 
-  -- where the code computed the row's start and length
+  -- what is lent, where the code computed the row's start and length
+  module _ (start width : ℕ) (eStart : start ≡ rowStart n c k) (eWidth : width ≡ rowLength n) where
+    pub lent-long : length (part start width t) ≡ rowLength n
+    lent-long = rw (eStart, eWidth) (row-long n t c k long cIn kIn)
+
+    pub lent-owner : T (inRange n (view n t)) → n .servers ≤ 8 → rowView n (part start width t) owner ≤ 16
+    lent-owner range few =
+        let tests = range-facts n (view n t) range .rows c k cIn kIn in
+        let most : view n t (row c k owner) ≤ 16 = omega (arith, leb→le (view n t (row c k owner)) (n .servers) (tests .0)) in
+        rw (eStart, eWidth) (subst (λ r. r owner ≤ 16) (row-view n t c k long cIn kIn) most)
+
   pub lent-rule : (ruleOf : Row → RowRule) → ((r : Row) → FieldsExist n (ruleOf r .writes)) → (number start width : ℕ) (cells : List ℕ)
       → start ≡ rowStart n c k → width ≡ rowLength n
       → _≡_ {A = Done} (record { number = number; cells = cells }) (stepped n (part start width t) (ruleOf (rowView n (part start width t))))
@@ -165,3 +176,42 @@ suspects-nobody n t i e = rw e refl
 
 pub at-kind : (n : Counts) (e : Event) (k : ℕ) → e .kind ≡ k → every (fields n e) ≡ true → All (fieldTests n (kindOf k) e)
 at-kind n e k f t = every-all (fieldTests n (kindOf k) e) (true-T _ (ap (λ x. every (fieldTests n (kindOf x) e)) (sym f) ∙ t))
+
+pub numbered : (n id : ℕ) → T (inside n id) → (1 ≤ id) × (id ≤ n)
+numbered n id x = (inside-low n id x, inside-high n id x)
+
+-- a kind that is of no row, where the decision over the row's kinds ends
+pub no-row : (k : ℕ) → (k ≡ 3 → ⊥) → (k ≡ 4 → ⊥) → (k ≡ 5 → ⊥) → (k ≡ 6 → ⊥) → (k ≡ 7 → ⊥) → (k ≡ 8 → ⊥) → (k ≡ 11 → ⊥) → (k ≡ 12 → ⊥) → (k ≡ 13 → ⊥)
+    → ofRow k ≡ true → ⊥
+no-row k a b c d e f g h i z = false≢true
+    (rw (ne-eqb k 3 a, ne-eqb k 4 b, ne-eqb k 5 c, ne-eqb k 6 d, ne-eqb k 7 e, ne-eqb k 8 f, ne-eqb k 11 g, ne-eqb k 12 h, ne-eqb k 13 i) at z)
+
+-- every rule of a row writes cells that there are, if its server is one
+pub row-rule-exists : (n : Counts) (e : Event) (isReady suspected : ℕ) → ofRow (e .kind) ≡ true → every (fields n e) ≡ true → (r : Row) → FieldsExist n (rowRule n e isReady suspected r .writes)
+row-rule-exists n e isReady suspected ofRows fit r =
+    let i = e .server in
+    let d = e .database in
+    let k = e .kind in
+    let decision = cond (eqb k 12) (decideRule i d r) (ackRule i d r) in
+    let cleaning = cond (eqb k 11) (cleanRule i suspected r) decision in
+    let writing = cond (eqb k 8) (writeRule (n .databases) i r) cleaning in
+    let readiness = cond (eqb k 7) (readyRule i d isReady r) writing in
+    let voting = cond (eqb k 6) (voteRule i d r) readiness in
+    let preparing = cond (eqb k 5) (prepareRule d (e .value) r) voting in
+    let computing = cond (eqb k 4) (computeRule i (e .value) r) preparing in
+    by-cond P (eqb k 3) (requestRule i r) computing (λ t. (tt, tt)) (λ a.
+    by-cond P (eqb k 4) (computeRule i (e .value) r) preparing (λ t. (tt, tt)) (λ b.
+    by-cond P (eqb k 5) (prepareRule d (e .value) r) voting (λ t. (tt, (tt, tt))) (λ c.
+    by-cond P (eqb k 6) (voteRule i d r) readiness (λ t. (tt, (tt, tt))) (λ d'.
+    by-cond P (eqb k 7) (readyRule i d isReady r) writing (λ t. (tt, (tt, tt))) (λ e'.
+    by-cond P (eqb k 8) (writeRule (n .databases) i r) cleaning (λ t. (tt, (tt, (tt, (tt, tt))))) (λ f.
+    by-cond P (eqb k 11) (cleanRule i suspected r) decision (λ t. (tt, (tt, (tt, tt)))) (λ g.
+    by-cond P (eqb k 12) (decideRule i d r) (ackRule i d r) (λ t. (tt, (tt, (at-kind n e 12 (eqb→eq k 12 t) fit .1 .1 .0, tt)))) (λ h.
+    by-eq k 13 (λ is. (at-kind n e 13 is fit .1 .1 .0, tt))
+    (λ other. absurd (no-row k (differs k 3 a) (differs k 4 b) (differs k 5 c) (differs k 6 d') (differs k 7 e') (differs k 8 f) (differs k 11 g) (differs k 12 h) other ofRows))))))))))
+  where
+    P : RowRule → Type 0
+    P rule = FieldsExist n (rule .writes)
+
+    differs : (a b : ℕ) → T (not (eqb a b)) → a ≡ b → ⊥
+    differs a b t is = T-not (eqb a b) t (rw is (eqb-refl b))

@@ -1,18 +1,18 @@
 -- The rules over the whole table: what a rule gives and leaves, and which rule a record follows.
 use mathlib.Core.Path.{_≡_}
-use mathlib.Core.Bool.{Bool, true, cond, _||_}
-use mathlib.Core.List.{List}
+use mathlib.Core.Bool.{Bool, true, cond, _&&_, _||_}
+use mathlib.Core.List.{List, [], _∷_}
 use mathlib.Core.Option.{Option, none, some}
-use Prim.Native.Nat.{ℕ, _≤_}
+use Prim.Native.Nat.{ℕ, suc, _≤_}
 use lib.Dec.{T, eqb}
 use lib.ListN.{length}
 use Rattle.lists.specs.Tests.{every, inside}
 use Rattle.protocol.specs.declared.Counts.{Counts}
 use Rattle.protocol.specs.declared.Event.{Event}
-use Rattle.protocol.specs.Cells.{Row, State, ready, suspects, rowOf}
+use Rattle.protocol.specs.Cells.{outcome, value, ready, suspects, phase, attempt, delivered, row, Row, State, rowOf, Writes, inRow}
 use Rattle.protocol.specs.Events.{Kind, kindOf}
 use Rattle.protocol.specs.Numbers.{fields, inRange, acting, areUp}
-use Rattle.protocol.specs.Rules.{Rule, RowRule, atResult, rule, requestRule, computeRule, prepareRule, voteRule, readyRule, writeRule, cleanRule, decideRule, ackRule}
+use Rattle.protocol.specs.Rules.{Rule, RowRule, atResult, rule, calls, requestRule, computeRule, prepareRule, voteRule, readyRule, writeRule, cleanRule, decideRule, ackRule}
 use Rattle.table.specs.Layout.{tableLength}
 use Rattle.table.specs.Table.{view, setAll}
 use Rattle.table.specs.Jobs.{Done}
@@ -55,6 +55,17 @@ upAt n t e (some kind) = every (areUp (view n t) (acting (kind .event e)))
 unfoldable pub partiesUp : Counts → List ℕ → Event → Bool
 unfolding view
 partiesUp n t e = upAt n t e (kindOf (e .kind))
+
+-- ---- rule 14 in parts: what an abort, and what any result, does to the client
+
+abbrev pub aborted : Counts → State → ℕ → ℕ → Writes
+aborted n s c k = cond (eqb k (n .attempts)) ((phase c, 3) ∷ []) ((attempt c, suc k) ∷ inRow c (suc k) (calls (rowOf s c (suc k))))
+
+abbrev pub concluded : Counts → State → ℕ → ℕ → Writes
+concluded n s c k =
+    cond (eqb (s (phase c)) 1 && eqb (s (attempt c)) k)
+    (cond (eqb (s (row c k outcome)) 1) ((phase c, 2) ∷ (delivered c, s (row c k value)) ∷ []) (aborted n s c k))
+    []
 
 -- ---- the rules of a row by their kinds: 3 to 8 and 11 to 13
 

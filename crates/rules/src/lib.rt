@@ -7,7 +7,7 @@ ghost use lib.Dec.{T};
 ghost use lib.ListN.{length};
 ghost use Rattle.lists.specs.Tests.{every, inside};
 ghost use Rattle.masks.specs.Mask.{all};
-ghost use Rattle.protocol.specs.Cells.{owner, sent, ready, suspects, rowOf, inRow};
+ghost use Rattle.protocol.specs.Cells.{owner, sent, ready, suspects, phase, delivered, rowOf, inRow};
 ghost use Rattle.protocol.specs.Numbers.{fields};
 ghost use Rattle.protocol.specs.Rules.{calls, issueRule, timeoutRule, suspectRule, trustRule, resultRule, serverCrashRule, databaseCrashRule, clientCrashRule, recoverRule};
 ghost use Rattle.protocol.specs.Answers.{answerNumber};
@@ -16,7 +16,7 @@ ghost use Rattle.table.specs.Table.{view, setAll, rowView};
 ghost use Rattle.table.specs.Jobs.{Done};
 ghost use Rattle.layout.specs.Ranged.{Ranged};
 ghost use Rattle.rows.specs.Rows.{Lent, stepped};
-ghost use Rattle.rules.specs.Rules.{Held, Named, ruled, Follows, rowRule, rowRuled};
+ghost use Rattle.rules.specs.Rules.{Held, Named, ruled, Follows, rowRule, rowRuled, aborted, concluded};
 use layout::ATTEMPT;
 use layout::DELIVERED;
 use layout::PHASE;
@@ -217,4 +217,70 @@ fn recover(table: &mut [u16], counts: Counts, database: u16) -> Answer
     table[at] = 1;
     table[at + READY] = 1;
     Answer::Accepted
+}
+
+// A commit reaches its client: phase 2, and the value is delivered.
+fn deliver(table: &mut [u16], counts: Counts, client: u16, value: u16)
+    requires { ⌜ Held counts (now table) ⌝ }
+    requires { ⌜ T (inside (counts .clients) client) ⌝ }
+    ensures { λ _. ⌜ now (table .exit) ≡ setAll counts (now (table .entry)) ((phase client, 2) ∷ (delivered client, value) ∷ []) ⌝ }
+{
+    let at = layout::client_at(counts, client);
+    table[at + PHASE] = 2;
+    table[at + DELIVERED] = value;
+}
+
+// An abort reaches its client: the next attempt, its request sent to server 1, or phase 3 if the attempt was the last.
+fn advance(table: &mut [u16], counts: Counts, client: u16, attempt: u16)
+    requires { ⌜ Held counts (now table) ⌝ }
+    requires { ⌜ T (inside (counts .clients) client) × T (inside (counts .attempts) attempt) ⌝ }
+    ensures { λ _. ⌜ now (table .exit) ≡ setAll counts (now (table .entry)) (aborted counts (view counts (now (table .entry))) client attempt) ⌝ }
+{
+    let at = layout::client_at(counts, client);
+    if attempt == counts.attempts {
+        table[at + PHASE] = 3;
+        return;
+    }
+    table[at + ATTEMPT] = attempt + 1;
+    call(table, counts, client, attempt + 1);
+}
+
+// A result reaches its client, which takes it if it waits on that attempt.
+fn conclude(table: &mut [u16], counts: Counts, client: u16, attempt: u16)
+    requires { ⌜ Held counts (now table) ⌝ }
+    requires { ⌜ T (inside (counts .clients) client) × T (inside (counts .attempts) attempt) ⌝ }
+    ensures { λ _. ⌜ now (table .exit) ≡ setAll counts (now (table .entry)) (concluded counts (view counts (now (table .entry))) client attempt) ⌝ }
+{
+    let at = layout::client_at(counts, client);
+    if table[at + PHASE] != 1 {
+        return;
+    }
+    if table[at + ATTEMPT] != attempt {
+        return;
+    }
+    let start = layout::row_start(counts, client, attempt);
+    let end = start + layout::row_length(counts);
+    let row = gates::load(&table[start..end]);
+    let decision = row.decision;
+    match decision {
+        Decision::None => advance(table, counts, client, attempt),
+        Decision::Commit(value) => deliver(table, counts, client, value),
+        Decision::Abort => advance(table, counts, client, attempt),
+    }
+}
+
+// 14. A result arrives.
+fn result(table: &mut [u16], counts: Counts, client: u16, attempt: u16, server: u16) -> Answer
+    requires { ⌜ Held counts (now table) ⌝ }
+    requires { ⌜ T (inside (counts .clients) client) × T (inside (counts .attempts) attempt) ⌝ }
+    requires { ⌜ T (inside (counts .servers) server) ⌝ }
+    ensures { λ r. ⌜ record { number = answerNumber r; cells = now (table .exit) } ≡ ruled counts (now (table .entry)) (resultRule counts (view counts (now (table .entry))) client attempt server) ⌝ }
+{
+    let start = layout::row_start(counts, client, attempt);
+    let end = start + layout::row_length(counts);
+    let answer = rows::result(&table[start..end], counts, server);
+    if gates::is_accepted(answer) {
+        conclude(table, counts, client, attempt);
+    }
+    answer
 }

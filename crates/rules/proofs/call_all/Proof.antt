@@ -1,3 +1,11 @@
+use mathlib.Core.Path.{refl, sym, ap, _∙_}
+use native.Mathlib.Omega.{arith}
+use native.Mathlib.Nat.{add-sub-cancel-left}
+use mathlib.Core.List.{[], _∷_}
+use Rattle.masks.specs.Mask.{all}
+use Rattle.protocol.specs.Cells.{sent}
+use Rattle.protocol.specs.Rules.{calls}
+use Rattle.rules.proofs.Laws.{numbered, row-room, lent-effect}
 use borrow.Author.Needs.{needs}
 use Rattle.rules.proofs.call_all.Statement.{statement}
 use Rattle.rules.proofs.call_all.Tie as tie
@@ -7,45 +15,43 @@ use Rattle.layout.proofs.row_length.Reads as row-length-reads
 use Rattle.layout.proofs.row_start.Reads as row-start-reads
 use Rattle.rows.proofs.call_all.Reads as call-all-reads
 
--- src/lib.rt:107:9
 row-start-requires : tie.Need-row-start-requires
-row-start-requires c κs = ?
+row-start-requires c κs =
+    let s = c .before in
+    let n = s .args .counts in
+    let t = s .args .table .now in
+    (s .pre .ranged, (numbered (n .clients) (s .args .client) (s .pre .client), numbered (n .attempts) (s .args .attempt) (s .pre .attempt)))
 
--- src/lib.rt:108:23
 row-length-requires : tie.Need-row-length-requires
 row-length-requires c κs = search needs
 
--- src/lib.rt:108:15
 add-end : tie.Need-add-end
-add-end c = ?
+add-end c = omega (arith, row-room (c .before .before .before .args .counts) (c .before .before .before .args .table .now) (c .before .before .before .pre .long) (c .before .before .before .pre .ranged) (c .before .before .before .args .client) (c .before .before .before .args .attempt) (c .before .before .before .pre .client) (c .before .before .before .pre .attempt), c .before .row-start .ensures, c .row-length .ensures)
 
--- src/lib.rt:109:20
 mul-call-all : tie.Need-mul-call-all
-mul-call-all c = ?
+mul-call-all c = omega (arith, row-room (c .before .before .before .args .counts) (c .before .before .before .args .table .now) (c .before .before .before .pre .long) (c .before .before .before .pre .ranged) (c .before .before .before .args .client) (c .before .before .before .args .attempt) (c .before .before .before .pre .client) (c .before .before .before .pre .attempt), c .before .row-start .ensures, c .row-length .ensures)
 
--- src/lib.rt:109:20
 sub-call-all : tie.Need-sub-call-all
 sub-call-all c = search needs
 
--- src/lib.rt:109:20
 part-call-all-start : tie.Need-part-call-all-start
 part-call-all-start c = search needs
 
--- src/lib.rt:109:20
 part-call-all-end : tie.Need-part-call-all-end
-part-call-all-end c = ?
+part-call-all-end c = omega (arith, row-room (c .before .before .before .args .counts) (c .before .before .before .args .table .now) (c .before .before .before .pre .long) (c .before .before .before .pre .ranged) (c .before .before .before .args .client) (c .before .before .before .args .attempt) (c .before .before .before .pre .client) (c .before .before .before .pre .attempt), c .before .row-start .ensures, c .row-length .ensures)
 
--- src/lib.rt:109:5
 call-all-requires : tie.Need-call-all-requires
 call-all-requires c κs = search needs
 
--- src/lib.rt:103:1
 same-length : tie.Need-same-length
 same-length c = search needs
 
--- src/lib.rt:103:1
 returns : tie.Need-returns
-returns c = ?
+returns c =
+    let s = c .before .before .before .before .before .before .before in
+    let n = s .args .counts in
+    let t = s .args .table .now in
+    lent-effect n t (s .args .client) (s .args .attempt) (s .pre .long) (s .pre .client) (s .pre .attempt) (λ r. (sent, all (n .servers)) ∷ []) (λ r. (tt, tt)) _ _ _ (c .before .before .before .before .before .row-start .ensures) (add-sub-cancel-left (c .before .before .before .before .before .row-start .result) (c .before .before .before .before .row-length .result) ∙ c .before .before .before .before .row-length .ensures) (c .before .before .call-all .ensures)
 
 pub call-all-spec : {M : Type 1} → statement M
 call-all-spec =

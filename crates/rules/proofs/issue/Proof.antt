@@ -67,7 +67,7 @@ call-requires c κs =
     record { long = simp length-set (s .pre .0 .long); ranged = s .pre .0 .ranged; client = s .pre .1; attempt = in-inside (n .attempts) 1 (omega arith) (s .pre .0 .ranged .attempts1) }
 
 same-length : tie.Need-same-length
-same-length c = ?
+same-length c = c .before .before .call .kept .0 ∙ simp length-set
 
 returns-2 : tie.Need-returns-2
 returns-2 c =
