@@ -1,24 +1,32 @@
 -- Room for the cells that a rule reads and writes, and the rules' writes to the parties' cells and to a lent row.
-use mathlib.Core.Path.{_≡_, refl, sym, ap, _∙_, subst}
+use mathlib.Core.Path.{_≡_, refl, sym, ap, ap₂, _∙_, subst}
 use mathlib.Core.Bool.{Bool, true, false, not, cond, false≢true}
 use mathlib.Core.List.{List, [], _∷_}
 use Prim.Native.Nat.{ℕ, suc, _+_, _≤_, _<_}
+use native.Mathlib.Numerals.{add-one}
 use native.Mathlib.Omega.{arith}
 use borrow.Author.Tests.{ne-eqb}
-use lib.Dec.{T, eqb, eqb→eq, eqb·suc-zero, leb→le, eqb-refl, T-not}
+use lib.Dec.{T, eqb, ltb, eqb→eq, eqb·suc-zero, leb→le, eqb-refl, T-not}
 use lib.ListN.{length, getD, set, length-set}
 use Rattle.lists.specs.Tests.{every, All, inside}
 use Rattle.lists.specs.Parts.{part, putBack}
 use Rattle.lists.proofs.Parts.{putBack-part}
-use Rattle.lists.proofs.Choice.{by-cond, by-eq, inside-low, inside-high, every-all, true-T}
+use Rattle.lists.proofs.Choice.{by-cond, by-eq, inside-low, inside-high, every-all, true-T, in-inside}
+use Rattle.masks.specs.Mask.{hasAll}
+use Rattle.registers.specs.Register.{held}
+use Rattle.registers.specs.declared.Decision.{Decision}
+use Rattle.registers.specs.declared.Decision.the-variants.{None, Commit, Abort}
+use Rattle.registers.proofs.Laws.{none-held, commit-held, abort-held}
+use Rattle.protocol.specs.declared.Answer.{Answer}
 use Rattle.protocol.specs.declared.Counts.{Counts}
+use Rattle.protocol.specs.Answers.{answerNumber}
 use Rattle.protocol.specs.declared.Event.{Event}
-use Rattle.protocol.specs.Cells.{Name, row, owner, exists, serverUp, suspects, databaseUp, ready, clientUp, phase, attempt, request, delivered}
+use Rattle.protocol.specs.Cells.{Field, Name, row, owner, outcome, value, known, exists, serverUp, suspects, databaseUp, ready, clientUp, phase, attempt, request, delivered}
 use Rattle.protocol.specs.Cells.{Row, rowOf, storeAll, Writes, RowWrites, inRow}
 use Rattle.protocol.specs.Events.{kindOf}
 use Rattle.protocol.specs.Numbers.{fields, fieldTests, inRange}
 use Rattle.protocol.proofs.Range.{range-facts, waiting-attempt}
-use Rattle.protocol.specs.Rules.{Rule, RowRule, atResult, calls, issueRule, requestRule, computeRule, prepareRule, voteRule, readyRule, writeRule, cleanRule, decideRule, ackRule}
+use Rattle.protocol.specs.Rules.{Rule, RowRule, atResult, calls, issueRule, resultRule, requestRule, computeRule, prepareRule, voteRule, readyRule, writeRule, cleanRule, decideRule, ackRule}
 use Rattle.table.specs.Layout.{rowLength, rowStart, place, tableLength}
 use Rattle.table.specs.Table.{view, setAll, setFields, rowView}
 use Rattle.table.specs.Jobs.{Done}
@@ -28,7 +36,7 @@ use Rattle.table.proofs.Lent.{row-view, row-fits, row-long, lent-writes}
 use Rattle.layout.specs.Ranged.{Ranged}
 use Rattle.layout.proofs.Laws.{ranged-tests, server-inside, database-inside, client-inside, view-cell, phase-place, attempt-place, request-place, delivered-place}
 use Rattle.gates.specs.Gates.{given}
-use Rattle.rows.specs.Rows.{stepped}
+use Rattle.rows.specs.Rows.{stepped, resultGiven}
 use Rattle.rules.specs.Rules.{ruleNumber, ruled, ofRow, rowRule}
 
 -- ---- room
@@ -215,3 +223,47 @@ row-rule-exists n e isReady suspected ofRows fit r =
 
     differs : (a b : ℕ) → T (not (eqb a b)) → a ≡ b → ⊥
     differs a b t is = T-not (eqb a b) t (rw is (eqb-refl b))
+
+-- ---- a rule whose gate answered, and whose effect was then done or not
+
+module _ (n : Counts) (t new : List ℕ) (r : Rule) (answer : Answer) (goes : Bool) (gate : answerNumber answer ≡ ruleNumber r) (asked : goes ≡ eqb (answerNumber answer) 0) where
+  pub went : goes ≡ true → new ≡ setAll n t (r .writes) → _≡_ {A = Done} (record { number = answerNumber answer; cells = new }) (ruled n t r)
+  went e effect = rw (sym gate, sym asked ∙ e, sym effect)
+
+  pub stayed : goes ≡ false → _≡_ {A = Done} (record { number = answerNumber answer; cells = t }) (ruled n t r)
+  stayed e = rw (sym gate, sym asked ∙ e)
+
+-- ---- rule 14
+
+-- what the lent row holds is what the state holds of the result
+module _ (n : Counts) (t : List ℕ) (c k : ℕ) (long : length t ≡ tableLength n) (cIn : T (inside (n .clients) c)) (kIn : T (inside (n .attempts) k))
+    (start width : ℕ) (eStart : start ≡ rowStart n c k) (eWidth : width ≡ rowLength n) where
+  pub lent-cell : (f : Field) → rowView n (part start width t) f ≡ view n t (row c k f)
+  lent-cell f = rw (eStart, eWidth) (ap (λ (r : Row). r f) (sym (row-view n t c k long cIn kIn)))
+
+  pub result-number : (i : ℕ) → resultGiven n i (rowView n (part start width t)) ≡ ruleNumber (resultRule n (view n t) c k i)
+  result-number i = ap₂ (λ (o m : ℕ). cond (every (ltb 0 o ∷ hasAll (n .databases) m ∷ [])) 0 6) (lent-cell outcome) (lent-cell (known i))
+
+  -- the decision that was read, by cases
+  module _ (d : Decision) (read : held (rowView n (part start width t) outcome) (rowView n (part start width t) value) ≡ d) where
+    pub read-none : d ≡ None → view n t (row c k outcome) ≡ 1 → ⊥
+    read-none e one = omega (arith, none-held (rowView n (part start width t) outcome) (rowView n (part start width t) value) (read ∙ e), lent-cell outcome)
+
+    pub read-abort : d ≡ Abort → view n t (row c k outcome) ≡ 1 → ⊥
+    read-abort e one = abort-held (rowView n (part start width t) outcome) (rowView n (part start width t) value) (read ∙ e) (lent-cell outcome ∙ one)
+
+    pub read-commit : (v : ℕ) → d ≡ Commit v → (view n t (row c k outcome) ≡ 1) × (view n t (row c k value) ≡ v)
+    read-commit v e =
+        let h = commit-held (rowView n (part start width t) outcome) (rowView n (part start width t) value) v (read ∙ e) in
+        (sym (lent-cell outcome) ∙ h .0, sym (lent-cell value) ∙ h .1)
+
+-- the next attempt: the client's cell, and then the call
+pub advanced : (n : Counts) (t : List ℕ) (long : length t ≡ tableLength n) (c k at : ℕ) (x : T (inside (n .clients) c)) (e : at ≡ place n (clientUp c)) (q : List ℕ)
+    → (let u = set t (at + 2) (k + 1) in q ≡ setAll n u (inRow c (k + 1) (calls (rowOf (view n u) c (k + 1)))))
+    → q ≡ setAll n t ((attempt c, suc k) ∷ inRow c (suc k) (calls (rowOf (view n t) c (suc k))))
+advanced n t long c k at x e q f =
+    f ∙ after-parties n t (set t (at + 2) (k + 1)) long ((attempt c, k + 1) ∷ []) (x, tt) (ap (λ p. set t p (k + 1)) (attempt-at n t long c at x e)) c (k + 1) calls refl
+    ∙ ap (λ (j : ℕ). setAll n t ((attempt c, j) ∷ inRow c j (calls (rowOf (view n t) c j)))) (add-one k)
+
+pub next-in : (m k : ℕ) → T (inside m k) → (k ≡ m → ⊥) → T (inside m (k + 1))
+next-in m k x ne = in-inside m (k + 1) (omega arith) (omega (arith, inside-high m k x, ne))

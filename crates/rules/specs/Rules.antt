@@ -1,8 +1,7 @@
--- The rules over the whole table: what a rule gives and leaves, and which rule a record follows.
+-- The rules over the whole table: what a rule gives and leaves, and the rules of a row by their kinds.
 use mathlib.Core.Path.{_≡_}
 use mathlib.Core.Bool.{Bool, true, cond, _&&_, _||_}
 use mathlib.Core.List.{List, [], _∷_}
-use mathlib.Core.Option.{Option, none, some}
 use Prim.Native.Nat.{ℕ, suc, _≤_}
 use lib.Dec.{T, eqb}
 use lib.ListN.{length}
@@ -10,9 +9,8 @@ use Rattle.lists.specs.Tests.{every, inside}
 use Rattle.protocol.specs.declared.Counts.{Counts}
 use Rattle.protocol.specs.declared.Event.{Event}
 use Rattle.protocol.specs.Cells.{outcome, value, ready, suspects, phase, attempt, delivered, row, Row, State, rowOf, Writes, inRow}
-use Rattle.protocol.specs.Events.{Kind, kindOf}
-use Rattle.protocol.specs.Numbers.{fields, inRange, acting, areUp}
-use Rattle.protocol.specs.Rules.{Rule, RowRule, atResult, rule, calls, requestRule, computeRule, prepareRule, voteRule, readyRule, writeRule, cleanRule, decideRule, ackRule}
+use Rattle.protocol.specs.Numbers.{fields, inRange}
+use Rattle.protocol.specs.Rules.{Rule, RowRule, atResult, calls, requestRule, computeRule, prepareRule, voteRule, readyRule, writeRule, cleanRule, decideRule, ackRule}
 use Rattle.table.specs.Layout.{tableLength}
 use Rattle.table.specs.Table.{view, setAll}
 use Rattle.table.specs.Jobs.{Done}
@@ -37,24 +35,6 @@ ruleNumber rule = cond (every (rule .sentIf)) (cond (every (rule .must)) 0 7) 6
 
 abbrev pub ruled : Counts → List ℕ → Rule → Done
 ruled n t rule = record { number = ruleNumber rule; cells = cond (eqb (ruleNumber rule) 0) (setAll n t (rule .writes)) t }
-
--- the rule of a record's kind, and 3 where the kind is unknown
-abbrev pub followedAt : Counts → List ℕ → Event → Option Kind → Done
-followedAt n t e none = record { number = 3; cells = t }
-followedAt n t e (some kind) = ruled n t (rule n (view n t) (kind .event e))
-
-unfoldable pub followed : Counts → List ℕ → Event → Done
-unfolding view
-followed n t e = followedAt n t e (kindOf (e .kind))
-
--- all parties that act in a record of known kind are up
-abbrev pub upAt : Counts → List ℕ → Event → Option Kind → Bool
-upAt n t e none = true
-upAt n t e (some kind) = every (areUp (view n t) (acting (kind .event e)))
-
-unfoldable pub partiesUp : Counts → List ℕ → Event → Bool
-unfolding view
-partiesUp n t e = upAt n t e (kindOf (e .kind))
 
 -- ---- rule 14 in parts: what an abort, and what any result, does to the client
 

@@ -1,4 +1,4 @@
-// The rules over the whole table: one function for each kind, and the decision over the 18 kinds.
+// The rules over the whole table: the kinds of a row, on the row lent by itself, and one function for each kind of the parties.
 ghost use mathlib.Core.Path.{_≡_};
 ghost use mathlib.Core.Bool.{Bool, true, cond};
 ghost use mathlib.Core.List.{[], _∷_};
@@ -77,7 +77,7 @@ fn suspects_of(table: &[u16], counts: Counts, server: u16) -> u16
 }
 
 // The rule of a row's kind at the event's result.
-fn at_row(table: &mut [u16], counts: Counts, event: Event) -> Answer
+pub fn at_row(table: &mut [u16], counts: Counts, event: Event) -> Answer
     requires { ⌜ Held counts (now table) ⌝ }
     requires { ⌜ Follows counts event ⌝ }
     ensures { λ r. ⌜ record { number = answerNumber r; cells = now (table .exit) } ≡ ruled counts (now (table .entry)) (rowRuled counts event (view counts (now (table .entry)))) ⌝ }
@@ -112,7 +112,7 @@ fn call_all(table: &mut [u16], counts: Counts, client: u16, attempt: u16)
 // ---- the rules of the parties
 
 // 1. A client issues its request.
-fn issue(table: &mut [u16], counts: Counts, client: u16, value: u16) -> Answer
+pub fn issue(table: &mut [u16], counts: Counts, client: u16, value: u16) -> Answer
     requires { ⌜ Held counts (now table) ⌝ }
     requires { ⌜ T (inside (counts .clients) client) ⌝ }
     ensures { λ r. ⌜ record { number = answerNumber r; cells = now (table .exit) } ≡ ruled counts (now (table .entry)) (issueRule (view counts (now (table .entry))) client value) ⌝ }
@@ -129,7 +129,7 @@ fn issue(table: &mut [u16], counts: Counts, client: u16, value: u16) -> Answer
 }
 
 // 2. A client's timeout.
-fn timeout(table: &mut [u16], counts: Counts, client: u16) -> Answer
+pub fn timeout(table: &mut [u16], counts: Counts, client: u16) -> Answer
     requires { ⌜ Held counts (now table) ⌝ }
     requires { ⌜ T (inside (counts .clients) client) ⌝ }
     ensures { λ r. ⌜ record { number = answerNumber r; cells = now (table .exit) } ≡ ruled counts (now (table .entry)) (timeoutRule counts (view counts (now (table .entry))) client) ⌝ }
@@ -144,7 +144,7 @@ fn timeout(table: &mut [u16], counts: Counts, client: u16) -> Answer
 }
 
 // 9. A server suspects another.
-fn suspect(table: &mut [u16], counts: Counts, server: u16, other: u16) -> Answer
+pub fn suspect(table: &mut [u16], counts: Counts, server: u16, other: u16) -> Answer
     requires { ⌜ Held counts (now table) ⌝ }
     requires { ⌜ T (inside (counts .servers) server) × T (inside (counts .servers) other) ⌝ }
     ensures { λ r. ⌜ record { number = answerNumber r; cells = now (table .exit) } ≡ ruled counts (now (table .entry)) (suspectRule (view counts (now (table .entry))) server other) ⌝ }
@@ -158,7 +158,7 @@ fn suspect(table: &mut [u16], counts: Counts, server: u16, other: u16) -> Answer
 }
 
 // 10. A server trusts another again.
-fn trust(table: &mut [u16], counts: Counts, server: u16, other: u16) -> Answer
+pub fn trust(table: &mut [u16], counts: Counts, server: u16, other: u16) -> Answer
     requires { ⌜ Held counts (now table) ⌝ }
     requires { ⌜ T (inside (counts .servers) server) × T (inside (counts .servers) other) ⌝ }
     ensures { λ r. ⌜ record { number = answerNumber r; cells = now (table .exit) } ≡ ruled counts (now (table .entry)) (trustRule (view counts (now (table .entry))) server other) ⌝ }
@@ -172,7 +172,7 @@ fn trust(table: &mut [u16], counts: Counts, server: u16, other: u16) -> Answer
 }
 
 // 15. A server crashes.
-fn crash_server(table: &mut [u16], counts: Counts, server: u16) -> Answer
+pub fn crash_server(table: &mut [u16], counts: Counts, server: u16) -> Answer
     requires { ⌜ Held counts (now table) ⌝ }
     requires { ⌜ T (inside (counts .servers) server) ⌝ }
     ensures { λ r. ⌜ record { number = answerNumber r; cells = now (table .exit) } ≡ ruled counts (now (table .entry)) (serverCrashRule server) ⌝ }
@@ -183,7 +183,7 @@ fn crash_server(table: &mut [u16], counts: Counts, server: u16) -> Answer
 }
 
 // 16. A database crashes.
-fn crash_database(table: &mut [u16], counts: Counts, database: u16) -> Answer
+pub fn crash_database(table: &mut [u16], counts: Counts, database: u16) -> Answer
     requires { ⌜ Held counts (now table) ⌝ }
     requires { ⌜ T (inside (counts .databases) database) ⌝ }
     ensures { λ r. ⌜ record { number = answerNumber r; cells = now (table .exit) } ≡ ruled counts (now (table .entry)) (databaseCrashRule database) ⌝ }
@@ -194,7 +194,7 @@ fn crash_database(table: &mut [u16], counts: Counts, database: u16) -> Answer
 }
 
 // 17. A client crashes.
-fn crash_client(table: &mut [u16], counts: Counts, client: u16) -> Answer
+pub fn crash_client(table: &mut [u16], counts: Counts, client: u16) -> Answer
     requires { ⌜ Held counts (now table) ⌝ }
     requires { ⌜ T (inside (counts .clients) client) ⌝ }
     ensures { λ r. ⌜ record { number = answerNumber r; cells = now (table .exit) } ≡ ruled counts (now (table .entry)) (clientCrashRule client) ⌝ }
@@ -205,7 +205,7 @@ fn crash_client(table: &mut [u16], counts: Counts, client: u16) -> Answer
 }
 
 // 18. A database recovers.
-fn recover(table: &mut [u16], counts: Counts, database: u16) -> Answer
+pub fn recover(table: &mut [u16], counts: Counts, database: u16) -> Answer
     requires { ⌜ Held counts (now table) ⌝ }
     requires { ⌜ T (inside (counts .databases) database) ⌝ }
     ensures { λ r. ⌜ record { number = answerNumber r; cells = now (table .exit) } ≡ ruled counts (now (table .entry)) (recoverRule (view counts (now (table .entry))) database) ⌝ }
@@ -270,7 +270,7 @@ fn conclude(table: &mut [u16], counts: Counts, client: u16, attempt: u16)
 }
 
 // 14. A result arrives.
-fn result(table: &mut [u16], counts: Counts, client: u16, attempt: u16, server: u16) -> Answer
+pub fn result(table: &mut [u16], counts: Counts, client: u16, attempt: u16, server: u16) -> Answer
     requires { ⌜ Held counts (now table) ⌝ }
     requires { ⌜ T (inside (counts .clients) client) × T (inside (counts .attempts) attempt) ⌝ }
     requires { ⌜ T (inside (counts .servers) server) ⌝ }

@@ -1,3 +1,9 @@
+use mathlib.Core.Path.{refl, sym, ap, _∙_}
+use native.Mathlib.Omega.{arith}
+use lib.ListN.{set, length-set}
+use Rattle.lists.proofs.Choice.{inside-high}
+use borrow.Author.Tests.{eq-eqb, ne-eqb}
+use Rattle.rules.proofs.Laws.{client-room, phase-at, next-in, advanced}
 use borrow.Author.Needs.{needs}
 use Rattle.rules.proofs.advance.Statement.{statement}
 use Rattle.rules.proofs.advance.Tie as tie
@@ -6,61 +12,59 @@ use Rattle.rules.proofs.advance.Lts as lts
 use Rattle.layout.proofs.client_at.Reads as client-at-reads
 use Rattle.rules.proofs.call.Reads as call-reads
 
--- src/lib.rt:239:9
 client-at-requires : tie.Need-client-at-requires
-client-at-requires c κs = ?
+client-at-requires c κs = omega (arith, client-room (c .before .args .counts) (c .before .args .table .now) (c .before .pre .0 .long) (c .before .pre .0 .ranged) (c .before .args .client) (c .before .pre .1 .0))
 
--- src/lib.rt:241:15
 add-table : tie.Need-add-table
-add-table c = ?
+add-table c = omega (arith, client-room (c .before .before .before .before .args .counts) (c .before .before .before .before .args .table .now) (c .before .before .before .before .pre .0 .long) (c .before .before .before .before .pre .0 .ranged) (c .before .before .before .before .args .client) (c .before .before .before .before .pre .1 .0), c .before .before .client-at .ensures)
 
--- src/lib.rt:241:9
 mul-table : tie.Need-mul-table
-mul-table c = ?
+mul-table c = omega (arith, client-room (c .before .before .before .before .args .counts) (c .before .before .before .before .args .table .now) (c .before .before .before .before .pre .0 .long) (c .before .before .before .before .pre .0 .ranged) (c .before .before .before .before .args .client) (c .before .before .before .before .pre .1 .0), c .before .before .client-at .ensures)
 
--- src/lib.rt:241:9
 slice-write-table : tie.Need-slice-write-table
-slice-write-table c = ?
+slice-write-table c = omega (arith, client-room (c .before .before .before .before .args .counts) (c .before .before .before .before .args .table .now) (c .before .before .before .before .pre .0 .long) (c .before .before .before .before .pre .0 .ranged) (c .before .before .before .before .args .client) (c .before .before .before .before .pre .1 .0), c .before .before .client-at .ensures)
 
--- src/lib.rt:242:9
 same-length : tie.Need-same-length
 same-length c = search needs
 
--- src/lib.rt:242:9
 returns : tie.Need-returns
-returns c = ?
+returns c =
+    let s = c .before .before .before .before in
+    let n = s .args .counts in
+    let t = s .args .table .now in
+    rw (eq-eqb _ _ (c .if1 .taken)) (ap (λ p. set t p 3) (phase-at n t (s .pre .0 .long) (s .args .client) (c .before .before .client-at .result) (s .pre .1 .0) (c .before .before .client-at .ensures)))
 
--- src/lib.rt:244:27
 add-table-2 : tie.Need-add-table-2
-add-table-2 c = ?
+add-table-2 c = omega (arith, c .before .before .before .before .pre .0 .ranged .attempts16, inside-high (c .before .before .before .before .args .counts .attempts) (c .before .before .before .before .args .attempt) (c .before .before .before .before .pre .1 .1))
 
--- src/lib.rt:244:11
 add-table-3 : tie.Need-add-table-3
-add-table-3 c = ?
+add-table-3 c = omega (arith, client-room (c .before .before .before .before .args .counts) (c .before .before .before .before .args .table .now) (c .before .before .before .before .pre .0 .long) (c .before .before .before .before .pre .0 .ranged) (c .before .before .before .before .args .client) (c .before .before .before .before .pre .1 .0), c .before .before .client-at .ensures)
 
--- src/lib.rt:244:5
 mul-table-2 : tie.Need-mul-table-2
-mul-table-2 c = ?
+mul-table-2 c = omega (arith, client-room (c .before .before .before .before .args .counts) (c .before .before .before .before .args .table .now) (c .before .before .before .before .pre .0 .long) (c .before .before .before .before .pre .0 .ranged) (c .before .before .before .before .args .client) (c .before .before .before .before .pre .1 .0), c .before .before .client-at .ensures)
 
--- src/lib.rt:244:5
 slice-write-table-2 : tie.Need-slice-write-table-2
-slice-write-table-2 c = ?
+slice-write-table-2 c = omega (arith, client-room (c .before .before .before .before .args .counts) (c .before .before .before .before .args .table .now) (c .before .before .before .before .pre .0 .long) (c .before .before .before .before .pre .0 .ranged) (c .before .before .before .before .args .client) (c .before .before .before .before .pre .1 .0), c .before .before .client-at .ensures)
 
--- src/lib.rt:245:33
 add-call : tie.Need-add-call
-add-call c = ?
+add-call c = omega (arith, c .before .before .before .before .before .pre .0 .ranged .attempts16, inside-high (c .before .before .before .before .before .args .counts .attempts) (c .before .before .before .before .before .args .attempt) (c .before .before .before .before .before .pre .1 .1))
 
--- src/lib.rt:245:5
 call-requires : tie.Need-call-requires
-call-requires c κs = ?
+call-requires c κs =
+    let s = c .before .before .before .before .before in
+    let n = s .args .counts in
+    let t = s .args .table .now in
+    record { long = simp length-set (s .pre .0 .long); ranged = s .pre .0 .ranged; client = s .pre .1 .0; attempt = next-in (n .attempts) (s .args .attempt) (s .pre .1 .1) (c .before .if1 .left) }
 
--- src/lib.rt:234:1
 same-length-2 : tie.Need-same-length-2
-same-length-2 c = ?
+same-length-2 c = c .before .before .call .kept .0 ∙ simp length-set
 
--- src/lib.rt:234:1
 returns-2 : tie.Need-returns-2
-returns-2 c = ?
+returns-2 c =
+    let s = c .before .before .before .before .before .before .before .before in
+    let n = s .args .counts in
+    let t = s .args .table .now in
+    rw (ne-eqb _ _ (c .before .before .before .before .if1 .left)) (advanced n t (s .pre .0 .long) (s .args .client) (s .args .attempt) (c .before .before .before .before .before .before .client-at .result) (s .pre .1 .0) (c .before .before .before .before .before .before .client-at .ensures) _ (c .before .before .call .ensures))
 
 pub advance-spec : {M : Type 1} → statement M
 advance-spec =

@@ -1,3 +1,6 @@
+use native.Mathlib.Omega.{arith}
+use lib.ListN.{set, length-set}
+use Rattle.rules.proofs.Laws.{client-room, phase-at, delivered-at}
 use borrow.Author.Needs.{needs}
 use Rattle.rules.proofs.deliver.Statement.{statement}
 use Rattle.rules.proofs.deliver.Tie as tie
@@ -5,41 +8,36 @@ use Rattle.rules.proofs.deliver.Reads as reads
 use Rattle.rules.proofs.deliver.Lts as lts
 use Rattle.layout.proofs.client_at.Reads as client-at-reads
 
--- src/lib.rt:228:9
 client-at-requires : tie.Need-client-at-requires
-client-at-requires c κs = ?
+client-at-requires c κs = omega (arith, client-room (c .before .args .counts) (c .before .args .table .now) (c .before .pre .0 .long) (c .before .pre .0 .ranged) (c .before .args .client) (c .before .pre .1))
 
--- src/lib.rt:229:11
 add-table : tie.Need-add-table
-add-table c = ?
+add-table c = omega (arith, client-room (c .before .before .args .counts) (c .before .before .args .table .now) (c .before .before .pre .0 .long) (c .before .before .pre .0 .ranged) (c .before .before .args .client) (c .before .before .pre .1), c .client-at .ensures)
 
--- src/lib.rt:229:5
 mul-table : tie.Need-mul-table
-mul-table c = ?
+mul-table c = omega (arith, client-room (c .before .before .args .counts) (c .before .before .args .table .now) (c .before .before .pre .0 .long) (c .before .before .pre .0 .ranged) (c .before .before .args .client) (c .before .before .pre .1), c .client-at .ensures)
 
--- src/lib.rt:229:5
 slice-write-table : tie.Need-slice-write-table
-slice-write-table c = ?
+slice-write-table c = omega (arith, client-room (c .before .before .args .counts) (c .before .before .args .table .now) (c .before .before .pre .0 .long) (c .before .before .pre .0 .ranged) (c .before .before .args .client) (c .before .before .pre .1), c .client-at .ensures)
 
--- src/lib.rt:230:11
 add-table-2 : tie.Need-add-table-2
-add-table-2 c = ?
+add-table-2 c = omega (arith, client-room (c .before .before .args .counts) (c .before .before .args .table .now) (c .before .before .pre .0 .long) (c .before .before .pre .0 .ranged) (c .before .before .args .client) (c .before .before .pre .1), c .client-at .ensures)
 
--- src/lib.rt:230:5
 mul-table-2 : tie.Need-mul-table-2
-mul-table-2 c = ?
+mul-table-2 c = omega (arith, client-room (c .before .before .args .counts) (c .before .before .args .table .now) (c .before .before .pre .0 .long) (c .before .before .pre .0 .ranged) (c .before .before .args .client) (c .before .before .pre .1), c .client-at .ensures)
 
--- src/lib.rt:230:5
 slice-write-table-2 : tie.Need-slice-write-table-2
-slice-write-table-2 c = ?
+slice-write-table-2 c = simp length-set (omega (arith, client-room (c .before .before .args .counts) (c .before .before .args .table .now) (c .before .before .pre .0 .long) (c .before .before .pre .0 .ranged) (c .before .before .args .client) (c .before .before .pre .1), c .client-at .ensures))
 
--- src/lib.rt:223:1
 same-length : tie.Need-same-length
 same-length c = search needs
 
--- src/lib.rt:223:1
 returns : tie.Need-returns
-returns c = ?
+returns c =
+    let s = c .before .before in
+    let n = s .args .counts in
+    let t = s .args .table .now in
+    λ j. set (set t (phase-at n t (s .pre .0 .long) (s .args .client) (c .client-at .result) (s .pre .1) (c .client-at .ensures) j) 2) (delivered-at n t (s .pre .0 .long) (s .args .client) (c .client-at .result) (s .pre .1) (c .client-at .ensures) j) (s .args .value)
 
 pub deliver-spec : {M : Type 1} → statement M
 deliver-spec =

@@ -1,3 +1,9 @@
+use mathlib.Core.Path.{refl, sym, ap, _∙_}
+use native.Mathlib.Omega.{arith}
+use native.Mathlib.Nat.{add-sub-cancel-left}
+use Rattle.protocol.specs.Rules.{resultRule}
+use Rattle.table.specs.Table.{view}
+use Rattle.rules.proofs.Laws.{numbered, row-room, lent-long, result-number, went, stayed}
 use borrow.Author.Needs.{needs}
 use Rattle.rules.proofs.result.Statement.{statement}
 use Rattle.rules.proofs.result.Tie as tie
@@ -9,61 +15,63 @@ use Rattle.layout.proofs.row_start.Reads as row-start-reads
 use Rattle.rows.proofs.result.Reads as result-reads
 use Rattle.rules.proofs.conclude.Reads as conclude-reads
 
--- src/lib.rt:279:9
 row-start-requires : tie.Need-row-start-requires
-row-start-requires c κs = ?
+row-start-requires c κs =
+    let s = c .before in
+    let n = s .args .counts in
+    let t = s .args .table .now in
+    (s .pre .0 .ranged, (numbered (n .clients) (s .args .client) (s .pre .1 .0 .0), numbered (n .attempts) (s .args .attempt) (s .pre .1 .0 .1)))
 
--- src/lib.rt:280:23
 row-length-requires : tie.Need-row-length-requires
 row-length-requires c κs = search needs
 
--- src/lib.rt:280:15
 add-end : tie.Need-add-end
-add-end c = ?
+add-end c = omega (arith, row-room (c .before .before .before .args .counts) (c .before .before .before .args .table .now) (c .before .before .before .pre .0 .long) (c .before .before .before .pre .0 .ranged) (c .before .before .before .args .client) (c .before .before .before .args .attempt) (c .before .before .before .pre .1 .0 .0) (c .before .before .before .pre .1 .0 .1), c .before .row-start .ensures, c .row-length .ensures)
 
--- src/lib.rt:281:31
 mul-result : tie.Need-mul-result
-mul-result c = ?
+mul-result c = omega (arith, row-room (c .before .before .before .args .counts) (c .before .before .before .args .table .now) (c .before .before .before .pre .0 .long) (c .before .before .before .pre .0 .ranged) (c .before .before .before .args .client) (c .before .before .before .args .attempt) (c .before .before .before .pre .1 .0 .0) (c .before .before .before .pre .1 .0 .1), c .before .row-start .ensures, c .row-length .ensures)
 
--- src/lib.rt:281:31
 sub-result : tie.Need-sub-result
 sub-result c = search needs
 
--- src/lib.rt:281:31
 part-result-start : tie.Need-part-result-start
 part-result-start c = search needs
 
--- src/lib.rt:281:31
 part-result-end : tie.Need-part-result-end
-part-result-end c = ?
+part-result-end c = omega (arith, row-room (c .before .before .before .before .args .counts) (c .before .before .before .before .args .table .now) (c .before .before .before .before .pre .0 .long) (c .before .before .before .before .pre .0 .ranged) (c .before .before .before .before .args .client) (c .before .before .before .before .args .attempt) (c .before .before .before .before .pre .1 .0 .0) (c .before .before .before .before .pre .1 .0 .1), c .before .before .row-start .ensures, c .before .row-length .ensures)
 
--- src/lib.rt:281:9
 result-requires : tie.Need-result-requires
-result-requires c κs = ?
+result-requires c κs =
+    let s = c .before .before .before .before .before in
+    let n = s .args .counts in
+    let t = s .args .table .now in
+    (record { long = lent-long n t (s .args .client) (s .args .attempt) (s .pre .0 .long) (s .pre .1 .0 .0) (s .pre .1 .0 .1) (c .before .before .before .row-start .result) _ (c .before .before .before .row-start .ensures) (add-sub-cancel-left (c .before .before .before .row-start .result) (c .before .before .row-length .result) ∙ c .before .before .row-length .ensures); servers = s .pre .0 .ranged .servers8; databases = s .pre .0 .ranged .databases8 }, numbered (n .servers) (s .args .server) (s .pre .1 .1))
 
--- src/lib.rt:282:8
 is-accepted-requires : tie.Need-is-accepted-requires
 is-accepted-requires c κs = search needs
 
--- src/lib.rt:283:9
 conclude-requires : tie.Need-conclude-requires
 conclude-requires c κs = search needs
 
--- src/lib.rt:273:1
 same-length : tie.Need-same-length
 same-length c = search needs
 
--- src/lib.rt:273:1
 returns : tie.Need-returns
-returns c = ?
+returns c =
+    let s = c .before .before .before .before .before .before .before .before .before .before .before .before in
+    let n = s .args .counts in
+    let t = s .args .table .now in
+    went n t _ (resultRule n (view n t) (s .args .client) (s .args .attempt) (s .args .server)) (c .before .before .before .before .before .before .result .result) _ (c .before .before .before .before .before .before .result .ensures ∙ result-number n t (s .args .client) (s .args .attempt) (s .pre .0 .long) (s .pre .1 .0 .0) (s .pre .1 .0 .1) (c .before .before .before .before .before .before .before .before .before .before .row-start .result) _ (c .before .before .before .before .before .before .before .before .before .before .row-start .ensures) (add-sub-cancel-left (c .before .before .before .before .before .before .before .before .before .before .row-start .result) (c .before .before .before .before .before .before .before .before .before .row-length .result) ∙ c .before .before .before .before .before .before .before .before .before .row-length .ensures) (s .args .server)) (c .before .before .before .before .before .is-accepted .ensures) (c .before .before .before .before .if1 .taken) (c .before .before .conclude .ensures)
 
--- src/lib.rt:273:1
 same-length-2 : tie.Need-same-length-2
 same-length-2 c = search needs
 
--- src/lib.rt:273:1
 returns-2 : tie.Need-returns-2
-returns-2 c = ?
+returns-2 c =
+    let s = c .before .before .before .before .before .before .before .before in
+    let n = s .args .counts in
+    let t = s .args .table .now in
+    stayed n t t (resultRule n (view n t) (s .args .client) (s .args .attempt) (s .args .server)) (c .before .before .result .result) _ (c .before .before .result .ensures ∙ result-number n t (s .args .client) (s .args .attempt) (s .pre .0 .long) (s .pre .1 .0 .0) (s .pre .1 .0 .1) (c .before .before .before .before .before .before .row-start .result) _ (c .before .before .before .before .before .before .row-start .ensures) (add-sub-cancel-left (c .before .before .before .before .before .before .row-start .result) (c .before .before .before .before .before .row-length .result) ∙ c .before .before .before .before .before .row-length .ensures) (s .args .server)) (c .before .is-accepted .ensures) (c .if1 .left)
 
 pub result-spec : {M : Type 1} → statement M
 result-spec =
