@@ -1,8 +1,8 @@
 -- The counts in range as tests and as bounds; the cells of each party one after the other, inside the table, and what they hold.
-use mathlib.Core.Path.{_≡_, refl, ap, _∙_}
+use mathlib.Core.Path.{_≡_, refl}
 use mathlib.Core.Bool.{Bool, true, false, _&&_}
 use mathlib.Core.List.{List}
-use Prim.Native.Nat.{ℕ, _+_, _-_, _*_, _≤_, _<_}
+use Prim.Native.Nat.{ℕ, _+_, _-_, _*_, _≤_}
 use native.Mathlib.Nat.{mul-le-mul}
 use native.Mathlib.Omega.{arith}
 use lib.Dec.{T}
@@ -16,6 +16,11 @@ use Rattle.table.specs.Layout.{rowLength, rowsBefore, rowStart, place, tableLen
 use Rattle.table.specs.Table.{view}
 use Rattle.table.proofs.Places.{place-inside, rows-before, row-end}
 use Rattle.layout.specs.Ranged.{Ranged}
+
+-- the last test of a list
+pub and-true : (b : Bool) → (b && true) ≡ b
+and-true true = refl
+and-true false = refl
 
 -- ---- the counts
 
@@ -35,15 +40,16 @@ tests-ranged n tests =
 
 pub ranged-tests : (n : Counts) → Ranged n → T (every (countTests n))
 ranged-tests n r =
-    all-every (countTests n)
-    (in-inside 8 (n .clients) (r .clients1) (r .clients8),
-    (in-inside 8 (n .servers) (r .servers1) (r .servers8),
-    (in-inside 8 (n .databases) (r .databases1) (r .databases8),
-    (in-inside 16 (n .attempts) (r .attempts1) (r .attempts16), tt))))
-
-pub and-true : (b : Bool) → (b && true) ≡ b
-and-true true = refl
-and-true false = refl
+    all-every (countTests n) (
+      in-inside 8 (n .clients) (r .clients1) (r .clients8),
+      (
+        in-inside 8 (n .servers) (r .servers1) (r .servers8),
+        (
+          in-inside 8 (n .databases) (r .databases1) (r .databases8),
+          (in-inside 16 (n .attempts) (r .attempts1) (r .attempts16), tt),
+        ),
+      ),
+    )
 
 -- ---- the code's products are small
 
@@ -104,6 +110,7 @@ module _ (n : Counts) (i : ℕ) where
   pub client-inside : 1 ≤ i → i ≤ n .clients → place n (clientUp i) + 5 ≤ tableLength n
   client-inside low high = omega (arith, delivered-place, place-inside n (delivered i) (in-inside (n .clients) i low high))
 
+-- and so does the row of a result
 pub row-inside : (n : Counts) (c k : ℕ) → 1 ≤ c → c ≤ n .clients → 1 ≤ k → k ≤ n .attempts → rowStart n c k + rowLength n ≤ tableLength n
 row-inside n c k c1 cC k1 kN = row-end n c k (in-inside (n .clients) c c1 cC) (in-inside (n .attempts) k k1 kN)
 

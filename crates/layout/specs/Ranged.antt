@@ -1,5 +1,5 @@
 -- The counts of a setup, each in its range: the tests of number 1 as bounds.
-use Prim.Native.Nat.{ℕ, _≤_}
+use Prim.Native.Nat.{_≤_}
 use Rattle.protocol.specs.declared.Counts.{Counts}
 
 pub record Ranged (n : Counts) : Type 0 where

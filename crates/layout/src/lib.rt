@@ -1,7 +1,6 @@
 // Where cells lie in the table, as code: the lengths of a row and of the table, and the places of the parties and of the rows.
 ghost use mathlib.Core.Path.{_≡_};
-ghost use mathlib.Core.Bool.{Bool};
-ghost use Prim.Native.Nat.{ℕ, _≤_};
+ghost use Prim.Native.Nat.{_≤_};
 ghost use Rattle.lists.specs.Tests.{every, inside};
 ghost use Rattle.protocol.specs.declared.Counts.{Counts as Setup};
 ghost use Rattle.protocol.specs.Cells.{serverUp, databaseUp, clientUp};
@@ -12,21 +11,31 @@ use protocol::Counts;
 
 // The most clients, servers or databases, and the most attempts of a client.
 const MOST_PARTIES: u16 = 8;
+
 const MOST_ATTEMPTS: u16 = 16;
 
 // How many cells the header has, each server, each database, each client, and a row but for its acknowledgements.
 const HEADER: usize = 4;
-const SERVER_CELLS: usize = 2;
-const DATABASE_CELLS: usize = 2;
-const CLIENT_CELLS: usize = 5;
+
+pub const SERVER_CELLS: usize = 2;
+
+pub const DATABASE_CELLS: usize = 2;
+
+pub const CLIENT_CELLS: usize = 5;
+
 const FIXED_CELLS: usize = 13;
 
 // How far behind its first cell, up, a party keeps the others.
 pub const SUSPECTS: usize = 1;
+
 pub const READY: usize = 1;
+
 pub const PHASE: usize = 1;
+
 pub const ATTEMPT: usize = 2;
+
 pub const REQUEST: usize = 3;
+
 pub const DELIVERED: usize = 4;
 
 // ---- the counts

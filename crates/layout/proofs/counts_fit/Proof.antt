@@ -19,27 +19,33 @@ count-fits-requires-2 c κs = search needs
 
 returns-2 : tie.Need-returns-2
 returns-2 c =
-    rw (sym (c .before .before .before .count-fits .ensures) ∙ not-false _ (c .before .before .if1 .left),
-    sym (c .before .count-fits2 .ensures) ∙ not-true _ (c .if2 .taken))
+    rw (
+      sym (c .before .before .before .count-fits .ensures) ∙ not-false _ (c .before .before .if1 .left),
+      sym (c .before .count-fits2 .ensures) ∙ not-true _ (c .if2 .taken),
+    )
 
 count-fits-requires-3 : tie.Need-count-fits-requires-3
 count-fits-requires-3 c κs = search needs
 
 returns-3 : tie.Need-returns-3
 returns-3 c =
-    rw (sym (c .before .before .before .before .before .count-fits .ensures) ∙ not-false _ (c .before .before .before .before .if1 .left),
-    sym (c .before .before .before .count-fits2 .ensures) ∙ not-false _ (c .before .before .if2 .left),
-    sym (c .before .count-fits3 .ensures) ∙ not-true _ (c .if3 .taken))
+    rw (
+      sym (c .before .before .before .before .before .count-fits .ensures) ∙ not-false _ (c .before .before .before .before .if1 .left),
+      sym (c .before .before .before .count-fits2 .ensures) ∙ not-false _ (c .before .before .if2 .left),
+      sym (c .before .count-fits3 .ensures) ∙ not-true _ (c .if3 .taken),
+    )
 
 count-fits-requires-4 : tie.Need-count-fits-requires-4
 count-fits-requires-4 c κs = search needs
 
 returns-4 : tie.Need-returns-4
 returns-4 c =
-    rw (sym (c .before .before .before .before .before .before .count-fits .ensures) ∙ not-false _ (c .before .before .before .before .before .if1 .left),
-    sym (c .before .before .before .before .count-fits2 .ensures) ∙ not-false _ (c .before .before .before .if2 .left),
-    sym (c .before .before .count-fits3 .ensures) ∙ not-false _ (c .before .if3 .left),
-    sym (c .count-fits4 .ensures)) (sym (and-true _))
+    rw (
+      sym (c .before .before .before .before .before .before .count-fits .ensures) ∙ not-false _ (c .before .before .before .before .before .if1 .left),
+      sym (c .before .before .before .before .count-fits2 .ensures) ∙ not-false _ (c .before .before .before .if2 .left),
+      sym (c .before .before .count-fits3 .ensures) ∙ not-false _ (c .before .if3 .left),
+      sym (c .count-fits4 .ensures),
+    ) (sym (and-true _))
 
 pub counts-fit-spec : {M : Type 1} → statement M
 counts-fit-spec =

@@ -16,13 +16,17 @@ cast-before : tie.Need-cast-before
 cast-before c = search needs
 
 mul-before : tie.Need-mul-before
-mul-before c = omega (arith, clients-before _ (c .before .pre .0) _ _ (c .before .pre .1 .0 .0) (c .before .pre .1 .0 .1) (c .before .pre .1 .1 .0) (c .before .pre .1 .1 .1))
+mul-before c =
+    let s = c .before in
+    omega (arith, clients-before _ (s .pre .0) _ _ (s .pre .1 .0 .0) (s .pre .1 .0 .1) (s .pre .1 .1 .0) (s .pre .1 .1 .1))
 
 sub-before-2 : tie.Need-sub-before-2
 sub-before-2 c = search needs
 
 add-before : tie.Need-add-before
-add-before c = omega (arith, clients-before _ (c .before .pre .0) _ _ (c .before .pre .1 .0 .0) (c .before .pre .1 .0 .1) (c .before .pre .1 .1 .0) (c .before .pre .1 .1 .1))
+add-before c =
+    let s = c .before in
+    omega (arith, clients-before _ (s .pre .0) _ _ (s .pre .1 .0 .0) (s .pre .1 .0 .1) (s .pre .1 .1 .0) (s .pre .1 .1 .1))
 
 rows-start-requires : tie.Need-rows-start-requires
 rows-start-requires c κs = search needs
@@ -32,11 +36,15 @@ row-length-requires c κs = search needs
 
 mul-result : tie.Need-mul-result
 unfolding rowsBefore
-mul-result c = rw (c .row-length .ensures) (omega (arith, cells-before _ (c .before .before .before .pre .0) _ _ (c .before .before .before .pre .1 .0 .0) (c .before .before .before .pre .1 .0 .1) (c .before .before .before .pre .1 .1 .0) (c .before .before .before .pre .1 .1 .1)))
+mul-result c =
+    let s = c .before .before .before in
+    rw (c .row-length .ensures) (omega (arith, cells-before _ (s .pre .0) _ _ (s .pre .1 .0 .0) (s .pre .1 .0 .1) (s .pre .1 .1 .0) (s .pre .1 .1 .1)))
 
 add-result : tie.Need-add-result
 unfolding rowsBefore
-add-result c = rw (c .row-length .ensures) (omega (arith, cells-before _ (c .before .before .before .pre .0) _ _ (c .before .before .before .pre .1 .0 .0) (c .before .before .before .pre .1 .0 .1) (c .before .before .before .pre .1 .1 .0) (c .before .before .before .pre .1 .1 .1)))
+add-result c =
+    let s = c .before .before .before in
+    rw (c .row-length .ensures) (omega (arith, cells-before _ (s .pre .0) _ _ (s .pre .1 .0 .0) (s .pre .1 .0 .1) (s .pre .1 .1 .0) (s .pre .1 .1 .1)))
 
 returns : tie.Need-returns
 unfolding rowStart

@@ -1,0 +1,161 @@
+// The engine: set up a fresh table, and apply one event to a table, whatever the caller lends.
+ghost use mathlib.Core.Path.{_≡_};
+ghost use mathlib.Core.Bool.{Bool, true};
+ghost use Prim.Native.Nat.{ℕ, _≤_};
+ghost use lib.Dec.{T, eqb};
+ghost use lib.ListN.{length};
+ghost use Rattle.lists.specs.Tests.{every, inside};
+ghost use Rattle.protocol.specs.Cells.{serverUp, databaseUp, clientUp};
+ghost use Rattle.protocol.specs.Numbers.{fields};
+ghost use Rattle.protocol.specs.Answers.{answerNumber};
+ghost use Rattle.table.specs.Layout.{tableLength};
+ghost use Rattle.table.specs.Table.{view, countsOf};
+ghost use Rattle.table.specs.Jobs.{Done, applied};
+ghost use Rattle.layout.specs.Ranged.{Ranged};
+ghost use Rattle.rules.specs.Rules.{Held};
+ghost use Rattle.engine.specs.Engine.{Passed, followed, partiesUp, answered};
+use protocol::Answer;
+use protocol::Counts;
+use protocol::Event;
+
+// ---- 5: the parties that act
+
+// Whether a client is up.
+fn client_up(table: &[u16], counts: Counts, client: u16) -> bool
+    requires { ⌜ Held counts (now table) ⌝ }
+    requires { ⌜ T (inside (counts .clients) client) ⌝ }
+    ensures { λ r. ⌜ r ≡ eqb (view counts (now (table .entry)) (clientUp client)) 1 ⌝ }
+{
+    let at = layout::client_at(counts, client);
+    table[at] == 1
+}
+
+// Whether a server is up.
+fn server_up(table: &[u16], counts: Counts, server: u16) -> bool
+    requires { ⌜ Held counts (now table) ⌝ }
+    requires { ⌜ T (inside (counts .servers) server) ⌝ }
+    ensures { λ r. ⌜ r ≡ eqb (view counts (now (table .entry)) (serverUp server)) 1 ⌝ }
+{
+    let at = layout::server_at(server);
+    table[at] == 1
+}
+
+// Whether a database is up.
+fn database_up(table: &[u16], counts: Counts, database: u16) -> bool
+    requires { ⌜ Held counts (now table) ⌝ }
+    requires { ⌜ T (inside (counts .databases) database) ⌝ }
+    ensures { λ r. ⌜ r ≡ eqb (view counts (now (table .entry)) (databaseUp database)) 1 ⌝ }
+{
+    let at = layout::database_at(counts, database);
+    table[at] == 1
+}
+
+// Whether the parties that act in the event are up: client in 1, 2, 14, 17; server in 3, 4, 6 to 11, 13, 15; database in 5, 12, 16.
+fn parties_up(table: &[u16], counts: Counts, event: Event) -> bool
+    requires { ⌜ Held counts (now table) ⌝ }
+    requires { ⌜ Passed counts event ⌝ }
+    ensures { λ r. ⌜ r ≡ partiesUp counts (now (table .entry)) event ⌝ }
+{
+    let kind = event.kind;
+    match kind {
+        1 => client_up(table, counts, event.client),
+        2 => client_up(table, counts, event.client),
+        3 => server_up(table, counts, event.server),
+        4 => server_up(table, counts, event.server),
+        5 => database_up(table, counts, event.database),
+        6 => server_up(table, counts, event.server),
+        7 => server_up(table, counts, event.server),
+        8 => server_up(table, counts, event.server),
+        9 => server_up(table, counts, event.server),
+        10 => server_up(table, counts, event.server),
+        11 => server_up(table, counts, event.server),
+        12 => database_up(table, counts, event.database),
+        13 => server_up(table, counts, event.server),
+        14 => client_up(table, counts, event.client),
+        15 => server_up(table, counts, event.server),
+        16 => database_up(table, counts, event.database),
+        17 => client_up(table, counts, event.client),
+        _ => true,
+    }
+}
+
+// ---- 6 and 7: the rule of the event's kind
+
+// The decision over the 18 kinds.
+fn follow(table: &mut [u16], counts: Counts, event: Event) -> Answer
+    requires { ⌜ Held counts (now table) ⌝ }
+    requires { ⌜ Passed counts event ⌝ }
+    ensures { λ r. ⌜ record { number = answerNumber r; cells = now (table .exit) } ≡ followed counts (now (table .entry)) event ⌝ }
+{
+    let kind = event.kind;
+    match kind {
+        1 => rules::issue(table, counts, event.client, event.value),
+        2 => rules::timeout(table, counts, event.client),
+        3 => rules::at_row(table, counts, event),
+        4 => rules::at_row(table, counts, event),
+        5 => rules::at_row(table, counts, event),
+        6 => rules::at_row(table, counts, event),
+        7 => rules::at_row(table, counts, event),
+        8 => rules::at_row(table, counts, event),
+        9 => rules::suspect(table, counts, event.server, event.value),
+        10 => rules::trust(table, counts, event.server, event.value),
+        11 => rules::at_row(table, counts, event),
+        12 => rules::at_row(table, counts, event),
+        13 => rules::at_row(table, counts, event),
+        14 => rules::result(table, counts, event.client, event.attempt, event.server),
+        15 => rules::crash_server(table, counts, event.server),
+        16 => rules::crash_database(table, counts, event.database),
+        17 => rules::crash_client(table, counts, event.client),
+        18 => rules::recover(table, counts, event.database),
+        0 | 19..=65535 => Answer::UnknownKind,
+    }
+}
+
+// ---- 3 to 7: an event on a sound table
+
+fn answer(table: &mut [u16], counts: Counts, event: Event) -> Answer
+    requires { ⌜ Held counts (now table) ⌝ }
+    ensures { λ r. ⌜ record { number = answerNumber r; cells = now (table .exit) } ≡ answered counts (now (table .entry)) event ⌝ }
+{
+    let kind = event.kind;
+    if kind == 0 {
+        return Answer::UnknownKind;
+    }
+    if 18 < kind {
+        return Answer::UnknownKind;
+    }
+    if !kinds::fields_fit(counts, event) {
+        return Answer::WrongField;
+    }
+    if !parties_up(&table[..], counts, event) {
+        return Answer::PartyDown;
+    }
+    follow(table, counts, event)
+}
+
+// ---- the second public job
+
+// Applies one event: the lowest number that applies, and no cell changed, or the rule's writes.
+pub fn apply(table: &mut [u16], event: Event) -> Answer
+    ensures { λ r. ⌜ record { number = answerNumber r; cells = now (table .exit) } ≡ applied (now (table .entry)) event ⌝ }
+{
+    if table.len() < 4 {
+        return Answer::WrongSize;
+    }
+    let counts = Counts {
+        clients: table[0],
+        servers: table[1],
+        databases: table[2],
+        attempts: table[3],
+    };
+    if !layout::counts_fit(counts) {
+        return Answer::WrongSize;
+    }
+    if table.len() != layout::table_length(counts) {
+        return Answer::WrongSize;
+    }
+    if !ranges::in_range(&table[..], counts) {
+        return Answer::OutOfRange;
+    }
+    answer(table, counts, event)
+}
