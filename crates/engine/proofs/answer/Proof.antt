@@ -1,3 +1,7 @@
+use mathlib.Core.Path.{refl, sym, ap, _∙_}
+use native.Mathlib.Omega.{arith}
+use borrow.Author.Tests.{not-true, not-false}
+use Rattle.engine.proofs.Laws.{unknown, wrong-field, party-down, ruled-so}
 use borrow.Author.Needs.{needs}
 use Rattle.engine.proofs.answer.Statement.{statement}
 use Rattle.engine.proofs.answer.Tie as tie
@@ -7,45 +11,35 @@ use Rattle.engine.proofs.follow.Reads as follow-reads
 use Rattle.engine.proofs.parties_up.Reads as parties-up-reads
 use Rattle.kinds.proofs.fields_fit.Reads as fields-fit-reads
 
--- src/lib.rt:122:9
 returns : tie.Need-returns
-returns c = ?
+returns c = unknown (c .before .before .args .counts) (c .before .before .args .table .now) (c .before .before .args .event) (λ l h. omega (arith, c .if1 .taken))
 
--- src/lib.rt:125:9
 returns-2 : tie.Need-returns-2
-returns-2 c = ?
+returns-2 c = unknown (c .before .before .before .args .counts) (c .before .before .before .args .table .now) (c .before .before .before .args .event) (λ l h. omega (arith, c .if2 .taken))
 
--- src/lib.rt:127:9
 fields-fit-requires : tie.Need-fields-fit-requires
 fields-fit-requires c κs = search needs
 
--- src/lib.rt:128:9
 returns-3 : tie.Need-returns-3
-returns-3 c = ?
+returns-3 c = wrong-field (c .before .before .before .before .before .args .counts) (c .before .before .before .before .before .args .table .now) (c .before .before .before .before .before .args .event) (omega (arith, c .before .before .before .if1 .left)) (omega (arith, c .before .before .if2 .left)) (sym (c .before .fields-fit .ensures) ∙ not-true _ (c .if3 .taken))
 
--- src/lib.rt:130:9
 parties-up-requires : tie.Need-parties-up-requires
-parties-up-requires c κs = ?
+parties-up-requires c κs = (c .before .before .before .before .before .before .pre, record { low = omega (arith, c .before .before .before .before .if1 .left); high = omega (arith, c .before .before .before .if2 .left); fits = sym (c .before .before .fields-fit .ensures) ∙ not-false _ (c .before .if3 .left) })
 
--- src/lib.rt:131:9
 same-length : tie.Need-same-length
 same-length c = search needs
 
--- src/lib.rt:131:9
 returns-4 : tie.Need-returns-4
-returns-4 c = ?
+returns-4 c = party-down (c .before .before .before .before .before .before .before .before .args .counts) (c .before .before .before .before .before .before .before .before .args .table .now) (c .before .before .before .before .before .before .before .before .args .event) (omega (arith, c .before .before .before .before .before .before .if1 .left)) (omega (arith, c .before .before .before .before .before .if2 .left)) (sym (c .before .before .before .before .fields-fit .ensures) ∙ not-false _ (c .before .before .before .if3 .left)) (sym (c .before .parties-up .ensures) ∙ not-true _ (c .if4 .taken))
 
--- src/lib.rt:133:5
 follow-requires : tie.Need-follow-requires
-follow-requires c κs = ?
+follow-requires c κs = (c .before .before .before .before .before .before .before .before .before .pre, record { low = omega (arith, c .before .before .before .before .before .before .before .if1 .left); high = omega (arith, c .before .before .before .before .before .before .if2 .left); fits = sym (c .before .before .before .before .before .fields-fit .ensures) ∙ not-false _ (c .before .before .before .before .if3 .left) })
 
--- src/lib.rt:116:1
 same-length-2 : tie.Need-same-length-2
 same-length-2 c = search needs
 
--- src/lib.rt:116:1
 returns-5 : tie.Need-returns-5
-returns-5 c = ?
+returns-5 c = c .before .before .follow .ensures ∙ ruled-so (c .before .before .before .before .before .before .before .before .before .before .before .before .args .counts) (c .before .before .before .before .before .before .before .before .before .before .before .before .args .table .now) (c .before .before .before .before .before .before .before .before .before .before .before .before .args .event) (omega (arith, c .before .before .before .before .before .before .before .before .before .before .if1 .left)) (omega (arith, c .before .before .before .before .before .before .before .before .before .if2 .left)) (sym (c .before .before .before .before .before .before .before .before .fields-fit .ensures) ∙ not-false _ (c .before .before .before .before .before .before .before .if3 .left)) (sym (c .before .before .before .before .before .parties-up .ensures) ∙ not-false _ (c .before .before .before .before .if4 .left))
 
 pub answer-spec : {M : Type 1} → statement M
 answer-spec =

@@ -1,3 +1,8 @@
+use mathlib.Core.Path.{refl, sym, ap, _∙_}
+use borrow.Author.Tests.{not-true, not-false}
+use Rattle.lists.proofs.Choice.{true-T}
+use Rattle.layout.proofs.Laws.{tests-ranged}
+use Rattle.engine.proofs.Laws.{beside, wrong-size, too-short, wrong-counts, other-length, out-of-range, right-size, sound-number, goes-on}
 use borrow.Author.Needs.{needs}
 use Rattle.engine.proofs.apply.Statement.{statement}
 use Rattle.engine.proofs.apply.Tie as tie
@@ -8,65 +13,50 @@ use Rattle.layout.proofs.counts_fit.Reads as counts-fit-reads
 use Rattle.layout.proofs.table_length.Reads as table-length-reads
 use Rattle.ranges.proofs.in_range.Reads as in-range-reads
 
--- src/lib.rt:143:9
 returns : tie.Need-returns
-returns c = ?
+returns c = beside (c .before .before .args .table .now) (c .before .before .args .event) 0 (wrong-size (c .before .before .args .table .now) (too-short _ (c .before .before .args .table .now) (c .if1 .taken)))
 
--- src/lib.rt:146:18
 slice-read-t7 : tie.Need-slice-read-t7
 slice-read-t7 c = search needs
 
--- src/lib.rt:147:18
 slice-read-t9 : tie.Need-slice-read-t9
 slice-read-t9 c = search needs
 
--- src/lib.rt:148:20
 slice-read-t11 : tie.Need-slice-read-t11
 slice-read-t11 c = search needs
 
--- src/lib.rt:149:19
 slice-read-t13 : tie.Need-slice-read-t13
 slice-read-t13 c = search needs
 
--- src/lib.rt:151:9
 counts-fit-requires : tie.Need-counts-fit-requires
 counts-fit-requires c κs = search needs
 
--- src/lib.rt:152:9
 returns-2 : tie.Need-returns-2
-returns-2 c = ?
+returns-2 c = beside (c .before .before .before .before .before .before .before .before .args .table .now) (c .before .before .before .before .before .before .before .before .args .event) 0 (wrong-size (c .before .before .before .before .before .before .before .before .args .table .now) (wrong-counts _ (c .before .before .before .before .before .before .before .before .args .table .now) (sym (c .before .counts-fit .ensures) ∙ not-true _ (c .if2 .taken))))
 
--- src/lib.rt:154:23
 table-length-requires : tie.Need-table-length-requires
-table-length-requires c κs = ?
+table-length-requires c κs = tests-ranged _ (true-T _ (sym (c .before .counts-fit .ensures) ∙ not-false _ (c .if2 .left)))
 
--- src/lib.rt:155:9
 returns-3 : tie.Need-returns-3
-returns-3 c = ?
+returns-3 c = beside (c .before .before .before .before .before .before .before .before .before .before .args .table .now) (c .before .before .before .before .before .before .before .before .before .before .args .event) 0 (wrong-size (c .before .before .before .before .before .before .before .before .before .before .args .table .now) (other-length _ (c .before .before .before .before .before .before .before .before .before .before .args .table .now) (λ e. c .if3 .taken (e ∙ sym (c .before .table-length .ensures)))))
 
--- src/lib.rt:157:9
 in-range-requires : tie.Need-in-range-requires
-in-range-requires c κs = ?
+in-range-requires c κs = ((c .before .if3 .left ∙ c .before .before .table-length .ensures), tests-ranged _ (true-T _ (sym (c .before .before .before .before .counts-fit .ensures) ∙ not-false _ (c .before .before .before .if2 .left))))
 
--- src/lib.rt:158:9
 same-length : tie.Need-same-length
 same-length c = search needs
 
--- src/lib.rt:158:9
 returns-4 : tie.Need-returns-4
-returns-4 c = ?
+returns-4 c = beside (c .before .before .before .before .before .before .before .before .before .before .before .before .before .args .table .now) (c .before .before .before .before .before .before .before .before .before .before .before .before .before .args .event) 1 (out-of-range (c .before .before .before .before .before .before .before .before .before .before .before .before .before .args .table .now) (right-size _ (c .before .before .before .before .before .before .before .before .before .before .before .before .before .args .table .now) (c .before .before .before .if3 .left ∙ c .before .before .before .before .table-length .ensures) (sym (c .before .before .before .before .before .before .counts-fit .ensures) ∙ not-false _ (c .before .before .before .before .before .if2 .left))) (sym (c .before .in-range .ensures) ∙ not-true _ (c .if4 .taken)))
 
--- src/lib.rt:160:5
 answer-requires : tie.Need-answer-requires
-answer-requires c κs = ?
+answer-requires c κs = record { long = (c .before .before .before .before .if3 .left ∙ c .before .before .before .before .before .table-length .ensures); ranged = tests-ranged _ (true-T _ (sym (c .before .before .before .before .before .before .before .counts-fit .ensures) ∙ not-false _ (c .before .before .before .before .before .before .if2 .left))); range = true-T _ (sym (c .before .before .in-range .ensures) ∙ not-false _ (c .before .if4 .left)) }
 
--- src/lib.rt:139:1
 same-length-2 : tie.Need-same-length-2
 same-length-2 c = search needs
 
--- src/lib.rt:139:1
 returns-5 : tie.Need-returns-5
-returns-5 c = ?
+returns-5 c = c .before .before .answer .ensures ∙ goes-on (c .before .before .before .before .before .before .before .before .before .before .before .before .before .before .before .before .before .args .table .now) (c .before .before .before .before .before .before .before .before .before .before .before .before .before .before .before .before .before .args .event) (sound-number (c .before .before .before .before .before .before .before .before .before .before .before .before .before .before .before .before .before .args .table .now) (right-size _ (c .before .before .before .before .before .before .before .before .before .before .before .before .before .before .before .before .before .args .table .now) (c .before .before .before .before .before .before .before .if3 .left ∙ c .before .before .before .before .before .before .before .before .table-length .ensures) (sym (c .before .before .before .before .before .before .before .before .before .before .counts-fit .ensures) ∙ not-false _ (c .before .before .before .before .before .before .before .before .before .if2 .left))) (sym (c .before .before .before .before .before .in-range .ensures) ∙ not-false _ (c .before .before .before .before .if4 .left)))
 
 pub apply-spec : {M : Type 1} → statement M
 apply-spec =

@@ -1,24 +1,29 @@
+use mathlib.Core.Path.{refl, sym, ap, _∙_}
+use native.Mathlib.Omega.{arith}
+use lib.Dec.{eqb}
+use Rattle.protocol.specs.Cells.{clientUp}
+use Rattle.rules.proofs.Laws.{client-room, cell-at}
 use Rattle.engine.proofs.client_up.Statement.{statement}
 use Rattle.engine.proofs.client_up.Tie as tie
 use Rattle.engine.proofs.client_up.Reads as reads
 use Rattle.engine.proofs.client_up.Lts as lts
 use Rattle.layout.proofs.client_at.Reads as client-at-reads
 
--- src/lib.rt:29:9
 client-at-requires : tie.Need-client-at-requires
-client-at-requires c κs = ?
+client-at-requires c κs = omega (arith, client-room (c .before .args .counts) (c .before .args .table .now) (c .before .pre .0 .long) (c .before .pre .0 .ranged) (c .before .args .client) (c .before .pre .1))
 
--- src/lib.rt:30:5
 mul-result : tie.Need-mul-result
-mul-result c = ?
+mul-result c = omega (arith, client-room (c .before .before .args .counts) (c .before .before .args .table .now) (c .before .before .pre .0 .long) (c .before .before .pre .0 .ranged) (c .before .before .args .client) (c .before .before .pre .1), c .client-at .ensures)
 
--- src/lib.rt:30:5
 shared-slice-read-result : tie.Need-shared-slice-read-result
-shared-slice-read-result c = ?
+shared-slice-read-result c = omega (arith, client-room (c .before .before .before .args .counts) (c .before .before .before .args .table .now) (c .before .before .before .pre .0 .long) (c .before .before .before .pre .0 .ranged) (c .before .before .before .args .client) (c .before .before .before .pre .1), c .before .client-at .ensures)
 
--- src/lib.rt:24:1
 returns : tie.Need-returns
-returns c = ?
+returns c =
+    let s = c .before .before .before in
+    let n = s .args .counts in
+    let t = s .args .table .now in
+    ap (λ x. eqb x 1) (cell-at n t (clientUp (s .args .client)) _ (s .pre .1) (c .before .client-at .ensures))
 
 pub client-up-spec : {M : Type 1} → statement M
 client-up-spec =

@@ -1,24 +1,29 @@
+use mathlib.Core.Path.{refl, sym, ap, _∙_}
+use native.Mathlib.Omega.{arith}
+use lib.Dec.{eqb}
+use Rattle.protocol.specs.Cells.{databaseUp}
+use Rattle.rules.proofs.Laws.{database-room, cell-at}
 use Rattle.engine.proofs.database_up.Statement.{statement}
 use Rattle.engine.proofs.database_up.Tie as tie
 use Rattle.engine.proofs.database_up.Reads as reads
 use Rattle.engine.proofs.database_up.Lts as lts
 use Rattle.layout.proofs.database_at.Reads as database-at-reads
 
--- src/lib.rt:49:9
 database-at-requires : tie.Need-database-at-requires
-database-at-requires c κs = ?
+database-at-requires c κs = omega (arith, database-room (c .before .args .counts) (c .before .args .table .now) (c .before .pre .0 .long) (c .before .pre .0 .ranged) (c .before .args .database) (c .before .pre .1))
 
--- src/lib.rt:50:5
 mul-result : tie.Need-mul-result
-mul-result c = ?
+mul-result c = omega (arith, database-room (c .before .before .args .counts) (c .before .before .args .table .now) (c .before .before .pre .0 .long) (c .before .before .pre .0 .ranged) (c .before .before .args .database) (c .before .before .pre .1), c .database-at .ensures)
 
--- src/lib.rt:50:5
 shared-slice-read-result : tie.Need-shared-slice-read-result
-shared-slice-read-result c = ?
+shared-slice-read-result c = omega (arith, database-room (c .before .before .before .args .counts) (c .before .before .before .args .table .now) (c .before .before .before .pre .0 .long) (c .before .before .before .pre .0 .ranged) (c .before .before .before .args .database) (c .before .before .before .pre .1), c .before .database-at .ensures)
 
--- src/lib.rt:44:1
 returns : tie.Need-returns
-returns c = ?
+returns c =
+    let s = c .before .before .before in
+    let n = s .args .counts in
+    let t = s .args .table .now in
+    ap (λ x. eqb x 1) (cell-at n t (databaseUp (s .args .database)) _ (s .pre .1) (c .before .database-at .ensures))
 
 pub database-up-spec : {M : Type 1} → statement M
 database-up-spec =

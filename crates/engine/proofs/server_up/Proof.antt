@@ -1,24 +1,29 @@
+use mathlib.Core.Path.{refl, sym, ap, _∙_}
+use native.Mathlib.Omega.{arith}
+use lib.Dec.{eqb}
+use Rattle.protocol.specs.Cells.{serverUp}
+use Rattle.rules.proofs.Laws.{server-room, cell-at}
 use Rattle.engine.proofs.server_up.Statement.{statement}
 use Rattle.engine.proofs.server_up.Tie as tie
 use Rattle.engine.proofs.server_up.Reads as reads
 use Rattle.engine.proofs.server_up.Lts as lts
 use Rattle.layout.proofs.server_at.Reads as server-at-reads
 
--- src/lib.rt:39:9
 server-at-requires : tie.Need-server-at-requires
-server-at-requires c κs = ?
+server-at-requires c κs = omega (arith, server-room (c .before .args .counts) (c .before .args .table .now) (c .before .pre .0 .long) (c .before .pre .0 .ranged) (c .before .args .server) (c .before .pre .1))
 
--- src/lib.rt:40:5
 mul-result : tie.Need-mul-result
-mul-result c = ?
+mul-result c = omega (arith, server-room (c .before .before .args .counts) (c .before .before .args .table .now) (c .before .before .pre .0 .long) (c .before .before .pre .0 .ranged) (c .before .before .args .server) (c .before .before .pre .1), c .server-at .ensures (c .before .before .args .counts))
 
--- src/lib.rt:40:5
 shared-slice-read-result : tie.Need-shared-slice-read-result
-shared-slice-read-result c = ?
+shared-slice-read-result c = omega (arith, server-room (c .before .before .before .args .counts) (c .before .before .before .args .table .now) (c .before .before .before .pre .0 .long) (c .before .before .before .pre .0 .ranged) (c .before .before .before .args .server) (c .before .before .before .pre .1), c .before .server-at .ensures (c .before .before .before .args .counts))
 
--- src/lib.rt:34:1
 returns : tie.Need-returns
-returns c = ?
+returns c =
+    let s = c .before .before .before in
+    let n = s .args .counts in
+    let t = s .args .table .now in
+    ap (λ x. eqb x 1) (cell-at n t (serverUp (s .args .server)) _ (s .pre .1) (c .before .server-at .ensures (c .before .before .before .args .counts)))
 
 pub server-up-spec : {M : Type 1} → statement M
 server-up-spec =
