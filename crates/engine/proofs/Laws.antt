@@ -17,8 +17,8 @@ use Rattle.protocol.specs.Numbers.{countTests, inRange, fieldTests, fields, act
 use Rattle.protocol.specs.Rules.{rule}
 use Rattle.protocol.proofs.Records.{kind-known, kind-unknown, event-record}
 use Rattle.table.specs.Layout.{tableLength}
-use Rattle.table.specs.Table.{countsOf, view, sizeTests, setAll}
-use Rattle.table.specs.Jobs.{Done, tableNumber, numberOf, writesAt, after, applied}
+use Rattle.table.specs.Table.{countsOf, view, sizeTests, freshTable, setAll}
+use Rattle.table.specs.Jobs.{Done, setUpNumber, setUp, tableNumber, numberOf, writesAt, after, applied}
 use Rattle.rules.specs.Rules.{ruleNumber, ofRow, Follows}
 use Rattle.engine.specs.Engine.{Passed, followedAt, followed, upAt, partiesUp, answered}
 
@@ -156,3 +156,13 @@ module _ (n : Counts) (e : Event) (k : ℕ) (is : e .kind ≡ k) (ofRows : ofRow
     server = inside-high (n .servers) (e .server) i;
     database = inside-high (n .databases) (e .database) d;
   }
+
+-- ---- the first job
+
+pub not-set-up : (t : List ℕ) (n : Counts) → every (sizeTests n t) ≡ false → _≡_ {A = Done} (record { number = 1; cells = t }) (setUp t n)
+unfolding setUp setUpNumber
+not-set-up t n f = rw f
+
+pub is-set-up : (t cells : List ℕ) (n : Counts) → every (sizeTests n t) ≡ true → cells ≡ freshTable n → _≡_ {A = Done} (record { number = 0; cells = cells }) (setUp t n)
+unfolding setUp setUpNumber
+is-set-up t cells n f e = rw f (ap (λ x. record { number = 0; cells = x }) e)

@@ -10,7 +10,7 @@ ghost use Rattle.protocol.specs.Numbers.{fields};
 ghost use Rattle.protocol.specs.Answers.{answerNumber};
 ghost use Rattle.table.specs.Layout.{tableLength};
 ghost use Rattle.table.specs.Table.{view, countsOf};
-ghost use Rattle.table.specs.Jobs.{Done, applied};
+ghost use Rattle.table.specs.Jobs.{Done, setUp, tableNumber, applied};
 ghost use Rattle.layout.specs.Ranged.{Ranged};
 ghost use Rattle.rules.specs.Rules.{Held};
 ghost use Rattle.engine.specs.Engine.{Passed, followed, partiesUp, answered};
@@ -133,7 +133,21 @@ fn answer(table: &mut [u16], counts: Counts, event: Event) -> Answer
     follow(table, counts, event)
 }
 
-// ---- the second public job
+// ---- the first two public jobs
+
+// Sets up a fresh table: refused, and no cell changed, where a count is outside its range or the table has another length.
+pub fn set_up(table: &mut [u16], counts: Counts) -> Answer
+    ensures { λ r. ⌜ record { number = answerNumber r; cells = now (table .exit) } ≡ setUp (now (table .entry)) counts ⌝ }
+{
+    if !layout::counts_fit(counts) {
+        return Answer::WrongSize;
+    }
+    if table.len() != layout::table_length(counts) {
+        return Answer::WrongSize;
+    }
+    fresh::make(table, counts);
+    Answer::Accepted
+}
 
 // Applies one event: the lowest number that applies, and no cell changed, or the rule's writes.
 pub fn apply(table: &mut [u16], event: Event) -> Answer
@@ -158,4 +172,54 @@ pub fn apply(table: &mut [u16], event: Event) -> Answer
         return Answer::OutOfRange;
     }
     answer(table, counts, event)
+}
+
+// ---- the same with numbers for answers, as other languages and the list job take them
+
+// The paper's number of an answer.
+pub fn number(answer: Answer) -> u16
+    ensures { λ r. ⌜ r ≡ answerNumber answer ⌝ }
+{
+    match answer {
+        Answer::Accepted => 0,
+        Answer::WrongSize => 1,
+        Answer::OutOfRange => 2,
+        Answer::UnknownKind => 3,
+        Answer::WrongField => 4,
+        Answer::PartyDown => 5,
+        Answer::NotSent => 6,
+        Answer::MustNot => 7,
+    }
+}
+
+// Numbers 1 and 2, asked of the table alone.
+pub fn check(table: &[u16]) -> u16
+    ensures { λ r. ⌜ r ≡ tableNumber (now (table .entry)) ⌝ }
+{
+    if table.len() < 4 {
+        return 1;
+    }
+    let counts = Counts {
+        clients: table[0],
+        servers: table[1],
+        databases: table[2],
+        attempts: table[3],
+    };
+    if !layout::counts_fit(counts) {
+        return 1;
+    }
+    if table.len() != layout::table_length(counts) {
+        return 1;
+    }
+    if !ranges::in_range(table, counts) {
+        return 2;
+    }
+    0
+}
+
+// One event, with its number for an answer.
+pub fn step(table: &mut [u16], event: Event) -> u16
+    ensures { λ r. ⌜ (r ≡ applied (now (table .entry)) event .number) × (now (table .exit) ≡ applied (now (table .entry)) event .cells) ⌝ }
+{
+    number(apply(table, event))
 }

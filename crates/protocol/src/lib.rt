@@ -1,6 +1,7 @@
 // The protocol: paper 01 as definitions (specs/), and what follows from them (proofs/). The code above shares these two records.
 
 // A setup: how many clients (C), servers (A), databases (D), and attempts for each client (N).
+#[repr(C)]
 pub struct Counts {
     pub clients: u16,
     pub servers: u16,
@@ -9,6 +10,7 @@ pub struct Counts {
 }
 
 // An event record: six numbers.
+#[repr(C)]
 pub struct Event {
     pub kind: u16,
     pub client: u16,
