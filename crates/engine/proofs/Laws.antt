@@ -1,6 +1,6 @@
 -- How the parts of the one-event job make up its meaning: the table's numbers, then the record's, then the rule's.
-use mathlib.Core.Path.{_≡_, refl, sym, ap, _∙_}
-use mathlib.Core.Bool.{Bool, true, false, not, cond, _&&_}
+use mathlib.Core.Path.{_≡_, sym, ap, _∙_}
+use mathlib.Core.Bool.{true, false, not, cond, _&&_}
 use mathlib.Core.List.{List}
 use mathlib.Core.Option.{some}
 use Prim.Native.Nat.{ℕ, suc, _≤_, _<_}
@@ -8,8 +8,8 @@ use native.Mathlib.Omega.{arith}
 use borrow.Author.Tests.{eq-eqb, ne-eqb}
 use lib.Dec.{T, eqb, eqb→eq, not-T}
 use lib.ListN.{length}
-use Rattle.lists.specs.Tests.{every, All, inside}
-use Rattle.lists.proofs.Choice.{T-true, true-T, false-T, every-all, in-inside, inside-low, inside-high}
+use Rattle.lists.specs.Tests.{every, inside}
+use Rattle.lists.proofs.Choice.{and-false, true-T, every-all, in-inside, inside-low, inside-high}
 use Rattle.protocol.specs.declared.Counts.{Counts}
 use Rattle.protocol.specs.declared.Event.{Event}
 use Rattle.protocol.specs.Events.{Kind, kindOf, recordOf}
@@ -20,11 +20,7 @@ use Rattle.table.specs.Layout.{tableLength}
 use Rattle.table.specs.Table.{countsOf, view, sizeTests, freshTable, setAll}
 use Rattle.table.specs.Jobs.{Done, setUpNumber, setUp, tableNumber, numberOf, writesAt, after, applied}
 use Rattle.rules.specs.Rules.{ruleNumber, ofRow, Follows}
-use Rattle.engine.specs.Engine.{Passed, followedAt, followed, upAt, partiesUp, answered}
-
-pub and-true : (b : Bool) → (b && true) ≡ b
-and-true true = refl
-and-true false = refl
+use Rattle.engine.specs.Engine.{followedAt, followed, upAt, partiesUp, answered}
 
 -- ---- numbers 1 and 2: the cells alone
 
@@ -53,10 +49,6 @@ too-short n t h = other-length n t (λ e. omega arith)
 
 pub wrong-counts : (n : Counts) (t : List ℕ) → every (countTests n) ≡ false → every (sizeTests n t) ≡ false
 wrong-counts n t f = ap (λ b. eqb (length t) (tableLength n) && b) f ∙ and-false (eqb (length t) (tableLength n))
-  where
-    and-false : (b : Bool) → (b && false) ≡ false
-    and-false true = refl
-    and-false false = refl
 
 pub right-size : (n : Counts) (t : List ℕ) → length t ≡ tableLength n → every (countTests n) ≡ true → every (sizeTests n t) ≡ true
 right-size n t e f = rw (eq-eqb (length t) (tableLength n) e) f

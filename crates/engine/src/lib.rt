@@ -1,17 +1,13 @@
 // The engine: set up a fresh table, and apply one event to a table, whatever the caller lends.
 ghost use mathlib.Core.Path.{_≡_};
-ghost use mathlib.Core.Bool.{Bool, true};
-ghost use Prim.Native.Nat.{ℕ, _≤_};
+ghost use mathlib.Core.Bool.{true};
 ghost use lib.Dec.{T, eqb};
 ghost use lib.ListN.{length};
-ghost use Rattle.lists.specs.Tests.{every, inside};
+ghost use Rattle.lists.specs.Tests.{inside};
 ghost use Rattle.protocol.specs.Cells.{serverUp, databaseUp, clientUp};
-ghost use Rattle.protocol.specs.Numbers.{fields};
 ghost use Rattle.protocol.specs.Answers.{answerNumber};
-ghost use Rattle.table.specs.Layout.{tableLength};
-ghost use Rattle.table.specs.Table.{view, countsOf};
-ghost use Rattle.table.specs.Jobs.{Done, setUp, tableNumber, applied};
-ghost use Rattle.layout.specs.Ranged.{Ranged};
+ghost use Rattle.table.specs.Table.{view};
+ghost use Rattle.table.specs.Jobs.{setUp, tableNumber, applied};
 ghost use Rattle.rules.specs.Rules.{Held};
 ghost use Rattle.engine.specs.Engine.{Passed, followed, partiesUp, answered};
 use protocol::Answer;

@@ -1,7 +1,7 @@
 // What the rules of a row ask: the row as a struct, read from the lent cells, and a gate for each rule.
 ghost use mathlib.Core.Path.{_≡_};
 ghost use mathlib.Core.Bool.{_&&_};
-ghost use Prim.Native.Nat.{ℕ, _≤_};
+ghost use Prim.Native.Nat.{_≤_};
 ghost use lib.Dec.{eqb};
 ghost use lib.ListN.{length};
 ghost use Rattle.protocol.specs.declared.Counts.{Counts};
@@ -13,17 +13,29 @@ use registers::Decision;
 
 // Where a row keeps its fixed cells.
 pub const OWNER: usize = 0;
+
 pub const OUTCOME: usize = 1;
+
 pub const VALUE: usize = 2;
+
 pub const COMPUTED: usize = 3;
+
 pub const SENT: usize = 4;
+
 pub const VOTED: usize = 5;
+
 pub const VOTED_YES: usize = 6;
+
 pub const HEARD: usize = 7;
+
 pub const HEARD_YES: usize = 8;
+
 pub const WRITTEN: usize = 9;
+
 pub const TERMINATING: usize = 10;
+
 pub const DECIDED: usize = 11;
+
 pub const COMMITTED: usize = 12;
 
 // The fixed cells of a row, with what its register of decisions holds.

@@ -1,8 +1,8 @@
 -- The five field tests of a record whose kind is known, by the limits of its kind.
 use mathlib.Core.Path.{_≡_, refl, sym, ap, _∙_}
-use mathlib.Core.Bool.{Bool, true, false, _&&_}
+use mathlib.Core.Bool.{Bool, false, _&&_}
 use mathlib.Core.List.{List, [], _∷_, map}
-use mathlib.Core.Option.{Option, none, some, Option·none-ne-some, Option·some-injective}
+use mathlib.Core.Option.{some, Option·none-ne-some, Option·some-injective}
 use Prim.Native.Nat.{ℕ, zero, suc, _-_, _≤_}
 use native.Mathlib.Omega.{arith}
 use lib.Dec.{leb}
@@ -43,10 +43,6 @@ fields-limited n e low high =
     ap (λ k. every (fieldTests n k e)) (known .1)
     ∙ ap (λ limits. every (fits n (getD limits 0 0) (e .client) ∷ fits n (getD limits 1 0) (e .attempt) ∷ fits n (getD limits 2 0) (e .server) ∷ fits n (getD limits 3 0) (e .database) ∷ fits n (getD limits 4 0) (e .value) ∷ []))
     (sym (limits-at (e .kind) (known .0) (known .1)))
-
-pub and-true : (b : Bool) → (b && true) ≡ b
-and-true true = refl
-and-true false = refl
 
 -- a field that is used: not 0, and at most its largest value
 pub zero-outside : (most field : ℕ) → field ≡ 0 → inside most field ≡ false

@@ -1,7 +1,6 @@
 // The table of kinds, and the one field check that consults it.
 ghost use mathlib.Core.Path.{_≡_};
-ghost use mathlib.Core.Bool.{Bool};
-ghost use Prim.Native.Nat.{ℕ, _≤_, _<_};
+ghost use Prim.Native.Nat.{_≤_, _<_};
 ghost use Rattle.lists.specs.Tests.{every};
 ghost use Rattle.protocol.specs.Events.{largest, fits};
 ghost use Rattle.protocol.specs.Numbers.{fields};
@@ -11,11 +10,17 @@ use protocol::Event;
 
 // What a field may hold.
 const UNUSED: u16 = 0;
+
 const CLIENT: u16 = 1;
+
 const ATTEMPT: u16 = 2;
+
 const SERVER: u16 = 3;
+
 const DATABASE: u16 = 4;
+
 const NUMBER: u16 = 5;
+
 const YES_OR_NO: u16 = 6;
 
 // A line for each kind from 1 to 18: client, attempt, server, database, value.

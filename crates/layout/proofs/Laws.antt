@@ -1,6 +1,5 @@
 -- The counts in range as tests and as bounds; the cells of each party one after the other, inside the table, and what they hold.
 use mathlib.Core.Path.{_≡_, refl}
-use mathlib.Core.Bool.{Bool, true, false, _&&_}
 use mathlib.Core.List.{List}
 use Prim.Native.Nat.{ℕ, _+_, _-_, _*_, _≤_}
 use native.Mathlib.Nat.{mul-le-mul}
@@ -18,10 +17,6 @@ use Rattle.table.proofs.Places.{place-inside, rows-before, row-end}
 use Rattle.layout.specs.Ranged.{Ranged}
 
 -- the last test of a list
-pub and-true : (b : Bool) → (b && true) ≡ b
-and-true true = refl
-and-true false = refl
-
 -- ---- the counts
 
 pub tests-ranged : (n : Counts) → T (every (countTests n)) → Ranged n

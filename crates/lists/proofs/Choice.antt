@@ -116,3 +116,13 @@ passed false x k h e = absurd (omega arith)
 pub passes : (b : Bool) (x k : ℕ) → T b → x ≡ 0 → cond b x k ≡ 0
 passes true x k t e = e
 passes false x k t e = absurd t
+
+-- ---- a test that another joins
+
+pub and-true : (b : Bool) → (b && true) ≡ b
+and-true true = refl
+and-true false = refl
+
+pub and-false : (b : Bool) → (b && false) ≡ false
+and-false true = refl
+and-false false = refl

@@ -1,7 +1,6 @@
 // A 16-bit number as a set of parties: bit i - 1 stands for party i.
 ghost use mathlib.Core.Path.{_≡_};
-ghost use mathlib.Core.Bool.{Bool};
-ghost use Prim.Native.Nat.{ℕ, _≤_};
+ghost use Prim.Native.Nat.{_≤_};
 ghost use Rattle.masks.specs.Mask.{has, with, without, put, all, hasAll, count};
 
 // Whether the party is in the mask.

@@ -55,5 +55,5 @@ module _ (n : Counts) where
   Progress t = (c k i : ℕ) → Id (n .clients) c → Id (n .attempts) k → Id (n .servers) i
       → 0 < view n t (row c k owner) → (i ≡ view n t (row c k owner) → ⊥) → view n t (serverUp i) ≡ 1 → (ds : List ℕ) → Covers (n .databases) ds
       → Then (λ gap q. Never (server-crashes i) gap) (suspect i (view n t (row c k owner)))
-          (Then (λ gap q. Never (server-crashes i) gap × Never (trust i (view n t (row c k owner))) gap) (clean c k i)
-          (ThenEach (λ d gap q. view n q (databaseUp d) ≡ 1) (decide-arrives c k i) ds (Decided c k i))) t
+      (Then (λ gap q. Never (server-crashes i) gap × Never (trust i (view n t (row c k owner))) gap) (clean c k i)
+      (ThenEach (λ d gap q. view n q (databaseUp d) ≡ 1) (decide-arrives c k i) ds (Decided c k i))) t

@@ -1,8 +1,7 @@
 // The two write-once registers: claims, one cell that holds an owner, and decisions, two cells that hold an outcome and its value.
 ghost use mathlib.Core.Path.{_≡_};
-ghost use Prim.Native.Nat.{ℕ};
 ghost use lib.ListN.{length};
-ghost use Rattle.registers.specs.Register.{held, outcomeOf, valueOf, Offering, offering, Claiming, claiming};
+ghost use Rattle.registers.specs.Register.{held, outcomeOf, valueOf, offering, claiming};
 
 // What a register of decisions holds.
 pub enum Decision {

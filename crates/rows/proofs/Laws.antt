@@ -29,14 +29,6 @@ use Rattle.table.specs.Jobs.{Done}
 use Rattle.gates.specs.Gates.{loaded, asRow, given}
 use Rattle.rows.specs.Rows.{Offers, obeys, acknowledges, stepped}
 
-pub and-true : (b : Bool) → (b && true) ≡ b
-and-true true = refl
-and-true false = refl
-
-pub and-false : (b : Bool) → (b && false) ≡ false
-and-false true = refl
-and-false false = refl
-
 -- two cells written with what they held
 pub kept : (l : List ℕ) (j k : ℕ) → l ≡ set (set l j (getD l j 0)) k (getD l k 0)
 kept l j k = sym (ap (λ x. set x k (getD l k 0)) (set-getD l j 0) ∙ set-getD l k 0)

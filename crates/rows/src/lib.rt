@@ -1,8 +1,8 @@
 // The rules that ask and write the row of one result alone, over the row's part of the table, lent by itself.
 ghost use mathlib.Core.Path.{_≡_};
-ghost use mathlib.Core.Bool.{Bool, true, false, not, _&&_};
+ghost use mathlib.Core.Bool.{false, not, _&&_};
 ghost use mathlib.Core.List.{[], _∷_};
-ghost use Prim.Native.Nat.{ℕ, _≤_};
+ghost use Prim.Native.Nat.{_≤_};
 ghost use lib.ListN.{length};
 ghost use Rattle.masks.specs.Mask.{all};
 ghost use Rattle.registers.specs.declared.Decision.the-variants.{None, Abort};
@@ -10,9 +10,8 @@ ghost use Rattle.protocol.specs.declared.Counts.{Counts as Setup};
 ghost use Rattle.protocol.specs.Cells.{owner, sent, acked, known, written};
 ghost use Rattle.protocol.specs.Rules.{calls, claims, votes, hears, offers, terminates, knows, requestRule, computeRule, prepareRule, voteRule, readyRule, writeRule, cleanRule, decideRule, ackRule};
 ghost use Rattle.protocol.specs.Answers.{answerNumber};
-ghost use Rattle.table.specs.Layout.{slot, rowLength};
+ghost use Rattle.table.specs.Layout.{slot};
 ghost use Rattle.table.specs.Table.{setFields, rowView};
-ghost use Rattle.table.specs.Jobs.{Done};
 ghost use Rattle.rows.specs.Rows.{Lent, Offers, obeys, acknowledges, stepped, resultGiven};
 use gates::COMMITTED;
 use gates::COMPUTED;
@@ -230,7 +229,12 @@ pub fn vote(row: &mut [u16], counts: Counts, server: u16, database: u16) -> Answ
     let answer = gates::vote(cells, server, database);
     if gates::is_accepted(answer) {
         let listening = gates::listens(cells, database);
-        hear(row, listening, database, masks::has(cells.voted_yes, database));
+        hear(
+            row,
+            listening,
+            database,
+            masks::has(cells.voted_yes, database),
+        );
     }
     answer
 }

@@ -1,20 +1,16 @@
 // The rules over the whole table: the kinds of a row, on the row lent by itself, and one function for each kind of the parties.
 ghost use mathlib.Core.Path.{_≡_};
-ghost use mathlib.Core.Bool.{Bool, true, cond};
 ghost use mathlib.Core.List.{[], _∷_};
-ghost use Prim.Native.Nat.{ℕ, _≤_};
+ghost use Prim.Native.Nat.{_≤_};
 ghost use lib.Dec.{T};
 ghost use lib.ListN.{length};
 ghost use Rattle.lists.specs.Tests.{every, inside};
 ghost use Rattle.masks.specs.Mask.{all};
 ghost use Rattle.protocol.specs.Cells.{owner, sent, ready, suspects, phase, delivered, rowOf, inRow};
-ghost use Rattle.protocol.specs.Numbers.{fields};
 ghost use Rattle.protocol.specs.Rules.{calls, issueRule, timeoutRule, suspectRule, trustRule, resultRule, serverCrashRule, databaseCrashRule, clientCrashRule, recoverRule};
 ghost use Rattle.protocol.specs.Answers.{answerNumber};
 ghost use Rattle.table.specs.Layout.{tableLength};
 ghost use Rattle.table.specs.Table.{view, setAll, rowView};
-ghost use Rattle.table.specs.Jobs.{Done};
-ghost use Rattle.layout.specs.Ranged.{Ranged};
 ghost use Rattle.rows.specs.Rows.{Lent, stepped};
 ghost use Rattle.rules.specs.Rules.{Held, Named, ruled, Follows, rowRule, rowRuled, aborted, concluded};
 use layout::ATTEMPT;

@@ -1,6 +1,6 @@
 -- The row of a result, lent by itself: what it holds, and that writes to it are writes to the table.
 use mathlib.Core.Path.{_≡_, refl, sym, ap, _∙_, fun-ext}
-use mathlib.Core.Bool.{Bool, true, false, cond, _&&_}
+use mathlib.Core.Bool.{Bool, true, false, cond}
 use mathlib.Core.List.{List, [], _∷_}
 use Prim.Native.Nat.{ℕ, _+_, _≤_, _<_}
 use native.Mathlib.Omega.{arith}
@@ -11,11 +11,11 @@ use Rattle.lists.specs.Parts.{part, putBack}
 use Rattle.lists.proofs.Choice.{T-true}
 use Rattle.lists.proofs.Parts.{part-length, getD-part, putBack-part, putBack-set}
 use Rattle.protocol.specs.declared.Counts.{Counts}
-use Rattle.protocol.specs.Cells.{Field, fieldExists, State, rowOf, Row, RowWrites, inRow}
+use Rattle.protocol.specs.Cells.{Field, fieldExists, rowOf, RowWrites, inRow}
 use Rattle.table.specs.Layout.{slot, rowLength, rowStart, place, tableLength}
 use Rattle.table.specs.Table.{view, setAll, setFields, rowView}
 use Rattle.table.proofs.Places.{slot-inside, row-end}
-use Rattle.table.proofs.View.{FieldsExist, length-setFields}
+use Rattle.table.proofs.View.{FieldsExist}
 
 module _ (n : Counts) (t : List ℕ) (c k : ℕ) (long : length t ≡ tableLength n) (cIn : T (inside (n .clients) c)) (kIn : T (inside (n .attempts) k)) where
   pub row-fits : rowStart n c k + rowLength n ≤ length t

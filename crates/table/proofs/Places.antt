@@ -1,7 +1,7 @@
 -- No two names share a cell, and all cells lie inside the table, behind its header.
-use mathlib.Core.Path.{_≡_, refl, sym, ap, _∙_}
+use mathlib.Core.Path.{_≡_, refl, sym, _∙_}
 use mathlib.Core.Bool.{_&&_}
-use Prim.Native.Nat.{ℕ, zero, suc, _+_, _-_, _*_, _≤_, _<_}
+use Prim.Native.Nat.{ℕ, suc, _+_, _-_, _*_, _≤_, _<_}
 use native.Mathlib.Nat.{mul-le-mul, mul-le-mul-right, suc-mul}
 use native.Mathlib.Omega.{arith}
 use lib.Arith.{digits-lt}
@@ -133,7 +133,7 @@ place-is n (delivered c) x = ofClient (omega arith) (omega arith) refl refl (ins
 place-is n (row c k f) x =
     let rest = and-right (inside (n .clients) c) (inside (n .attempts) k && fieldExists n f) x in
     ofRow (slot n f) (slot-is n f (and-right (inside (n .attempts) k) (fieldExists n f) rest)) (and-left (inside (n .clients) c) (inside (n .attempts) k && fieldExists n f) x)
-        (and-left (inside (n .attempts) k) (fieldExists n f) rest) refl
+    (and-left (inside (n .attempts) k) (fieldExists n f) rest) refl
 
 module _ (n : Counts) (t i k c p u j l x q : ℕ) where
   places-differ : At n t i k c p → At n u j l x q → p ≡ q → (t ≡ u) × (i ≡ j) × (k ≡ l) × (c ≡ x)
@@ -176,7 +176,7 @@ module _ (n : Counts) (m : Name) (x : T (exists n m)) where
   pub place-same : (k : Name) → T (exists n k) → place n m ≡ place n k → T (same m k)
   place-same k y e =
       let d = places-differ n (tag m) (serverOf m) (attemptOf m) (partyOf m) (place n m) (tag k) (serverOf k) (attemptOf k) (partyOf k) (place n k)
-          (place-is n m x) (place-is n k y) e in
+      (place-is n m x) (place-is n k y) e in
       equal-same m k (d .0) (d .1) (d .2) (d .3)
 
 -- the largest setup, 8 8 8 16, has 3,788 cells, and no other has more

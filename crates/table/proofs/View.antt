@@ -2,13 +2,13 @@
 use mathlib.Core.Path.{_≡_, refl, sym, ap, _∙_, subst, fun-ext}
 use mathlib.Core.Bool.{Bool, true, false, not, cond}
 use mathlib.Core.List.{List, [], _∷_}
-use Prim.Native.Nat.{ℕ, _+_, _≤_, _<_}
+use Prim.Native.Nat.{ℕ, _<_}
 use native.Mathlib.Omega.{arith}
 use lib.Dec.{T, T-not}
 use lib.ListN.{length, getD, set, length-set}
 use lib.Seq.{getD-set-same, getD-set-other}
 use Rattle.protocol.specs.declared.Counts.{Counts}
-use Rattle.protocol.specs.Cells.{Field, sameField, fieldExists, Name, same, exists, State, store, storeAll, Writes, Row, storeField, storeFields, RowWrites}
+use Rattle.protocol.specs.Cells.{Field, sameField, fieldExists, Name, same, exists, store, storeAll, Writes, storeField, RowWrites}
 use Rattle.protocol.proofs.Names.{same-equal, same-field-equal}
 use Rattle.table.specs.Layout.{slot, rowLength, headerLength, place, tableLength}
 use Rattle.table.specs.Table.{countsOf, view, setAll, setFields, rowView}

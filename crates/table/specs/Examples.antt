@@ -6,9 +6,8 @@ use lib.Dec.{eqb}
 use lib.ListN.{replicate}
 use Rattle.lists.specs.Tests.{every}
 use Rattle.protocol.specs.declared.Counts.{Counts}
-use Rattle.protocol.specs.declared.Event.{Event as Record}
 use Rattle.protocol.specs.Cells.{Writes, State, phase, attempt, request, delivered, row, owner, outcome, value, votedYes, committed}
-use Rattle.protocol.specs.Events.{Event, recordOf, issue, timeout, request-arrives, compute, prepare-arrives, vote-arrives, ready-arrives, write, suspect, trust, clean, decide-arrives, ack-arrives, result-arrives, server-crashes, database-crashes, client-crashes, database-recovers}
+use Rattle.protocol.specs.Events.{Event, recordOf, issue, timeout, request-arrives, compute, prepare-arrives, vote-arrives, ready-arrives, write, suspect, clean, decide-arrives, ack-arrives, result-arrives, server-crashes, database-crashes, database-recovers}
 use Rattle.table.specs.Layout.{tableLength}
 use Rattle.table.specs.Table.{view, setAll}
 use Rattle.table.specs.Jobs.{Ran, setUp, stopped, ran}

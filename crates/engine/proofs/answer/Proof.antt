@@ -1,15 +1,10 @@
-use mathlib.Core.Path.{refl, sym, ap, _∙_}
+use mathlib.Core.Path.{sym, _∙_}
 use native.Mathlib.Omega.{arith}
 use borrow.Author.Tests.{not-true, not-false}
 use Rattle.engine.proofs.Laws.{unknown, wrong-field, party-down, ruled-so}
 use borrow.Author.Needs.{needs}
 use Rattle.engine.proofs.answer.Statement.{statement}
 use Rattle.engine.proofs.answer.Tie as tie
-use Rattle.engine.proofs.answer.Reads as reads
-use Rattle.engine.proofs.answer.Lts as lts
-use Rattle.engine.proofs.follow.Reads as follow-reads
-use Rattle.engine.proofs.parties_up.Reads as parties-up-reads
-use Rattle.kinds.proofs.fields_fit.Reads as fields-fit-reads
 
 returns : tie.Need-returns
 returns c = unknown (c .before .before .args .counts) (c .before .before .args .table .now) (c .before .before .args .event) (λ l h. omega (arith, c .if1 .taken))

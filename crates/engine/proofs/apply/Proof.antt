@@ -1,4 +1,4 @@
-use mathlib.Core.Path.{refl, sym, ap, _∙_}
+use mathlib.Core.Path.{sym, _∙_}
 use borrow.Author.Tests.{not-true, not-false}
 use Rattle.lists.proofs.Choice.{true-T}
 use Rattle.layout.proofs.Laws.{tests-ranged}
@@ -6,12 +6,6 @@ use Rattle.engine.proofs.Laws.{beside, wrong-size, too-short, wrong-cou
 use borrow.Author.Needs.{needs}
 use Rattle.engine.proofs.apply.Statement.{statement}
 use Rattle.engine.proofs.apply.Tie as tie
-use Rattle.engine.proofs.apply.Reads as reads
-use Rattle.engine.proofs.apply.Lts as lts
-use Rattle.engine.proofs.answer.Reads as answer-reads
-use Rattle.layout.proofs.counts_fit.Reads as counts-fit-reads
-use Rattle.layout.proofs.table_length.Reads as table-length-reads
-use Rattle.ranges.proofs.in_range.Reads as in-range-reads
 
 returns : tie.Need-returns
 returns c = beside (c .before .before .args .table .now) (c .before .before .args .event) 0 (wrong-size (c .before .before .args .table .now) (too-short _ (c .before .before .args .table .now) (c .if1 .taken)))

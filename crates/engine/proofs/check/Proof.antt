@@ -1,4 +1,4 @@
-use mathlib.Core.Path.{sym, ap, _∙_}
+use mathlib.Core.Path.{sym, _∙_}
 use borrow.Author.Tests.{not-true, not-false}
 use Rattle.lists.proofs.Choice.{true-T}
 use Rattle.layout.proofs.Laws.{tests-ranged}
@@ -6,11 +6,6 @@ use Rattle.engine.proofs.Laws.{wrong-size, too-short, wrong-counts, oth
 use borrow.Author.Needs.{needs}
 use Rattle.engine.proofs.check.Statement.{statement}
 use Rattle.engine.proofs.check.Tie as tie
-use Rattle.engine.proofs.check.Reads as reads
-use Rattle.engine.proofs.check.Lts as lts
-use Rattle.layout.proofs.counts_fit.Reads as counts-fit-reads
-use Rattle.layout.proofs.table_length.Reads as table-length-reads
-use Rattle.ranges.proofs.in_range.Reads as in-range-reads
 
 returns : tie.Need-returns
 returns c = sym (wrong-size (c .before .before .args .table .now) (too-short _ (c .before .before .args .table .now) (c .if1 .taken)))

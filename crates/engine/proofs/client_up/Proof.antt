@@ -1,13 +1,10 @@
-use mathlib.Core.Path.{refl, sym, ap, _∙_}
+use mathlib.Core.Path.{ap}
 use native.Mathlib.Omega.{arith}
 use lib.Dec.{eqb}
 use Rattle.protocol.specs.Cells.{clientUp}
 use Rattle.rules.proofs.Laws.{client-room, cell-at}
 use Rattle.engine.proofs.client_up.Statement.{statement}
 use Rattle.engine.proofs.client_up.Tie as tie
-use Rattle.engine.proofs.client_up.Reads as reads
-use Rattle.engine.proofs.client_up.Lts as lts
-use Rattle.layout.proofs.client_at.Reads as client-at-reads
 
 client-at-requires : tie.Need-client-at-requires
 client-at-requires c κs = omega (arith, client-room (c .before .args .counts) (c .before .args .table .now) (c .before .pre .0 .long) (c .before .pre .0 .ranged) (c .before .args .client) (c .before .pre .1))

@@ -1,13 +1,10 @@
-use mathlib.Core.Path.{refl, sym, ap, _∙_}
+use mathlib.Core.Path.{ap}
 use native.Mathlib.Omega.{arith}
 use lib.Dec.{eqb}
 use Rattle.protocol.specs.Cells.{databaseUp}
 use Rattle.rules.proofs.Laws.{database-room, cell-at}
 use Rattle.engine.proofs.database_up.Statement.{statement}
 use Rattle.engine.proofs.database_up.Tie as tie
-use Rattle.engine.proofs.database_up.Reads as reads
-use Rattle.engine.proofs.database_up.Lts as lts
-use Rattle.layout.proofs.database_at.Reads as database-at-reads
 
 database-at-requires : tie.Need-database-at-requires
 database-at-requires c κs = omega (arith, database-room (c .before .args .counts) (c .before .args .table .now) (c .before .pre .0 .long) (c .before .pre .0 .ranged) (c .before .args .database) (c .before .pre .1))

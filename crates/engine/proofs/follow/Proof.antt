@@ -1,4 +1,4 @@
-use mathlib.Core.Path.{refl, sym, ap, _∙_}
+use mathlib.Core.Path.{refl}
 use native.Mathlib.Omega.{arith}
 use Rattle.rules.proofs.Laws.{at-kind}
 use Rattle.engine.proofs.Laws.{by-server, by-database, by-both-parties, next}
@@ -6,18 +6,6 @@ use Rattle.engine.specs.Engine.{followed}
 use borrow.Author.Needs.{needs}
 use Rattle.engine.proofs.follow.Statement.{statement}
 use Rattle.engine.proofs.follow.Tie as tie
-use Rattle.engine.proofs.follow.Reads as reads
-use Rattle.engine.proofs.follow.Lts as lts
-use Rattle.rules.proofs.at_row.Reads as at-row-reads
-use Rattle.rules.proofs.crash_client.Reads as crash-client-reads
-use Rattle.rules.proofs.crash_database.Reads as crash-database-reads
-use Rattle.rules.proofs.crash_server.Reads as crash-server-reads
-use Rattle.rules.proofs.issue.Reads as issue-reads
-use Rattle.rules.proofs.recover.Reads as recover-reads
-use Rattle.rules.proofs.result.Reads as result-reads
-use Rattle.rules.proofs.suspect.Reads as suspect-reads
-use Rattle.rules.proofs.timeout.Reads as timeout-reads
-use Rattle.rules.proofs.trust.Reads as trust-reads
 
 issue-requires : tie.Need-issue-requires
 issue-requires c κs =

@@ -1,15 +1,11 @@
 use mathlib.Core.Path.{_≡_, sym, _∙_}
 use native.Mathlib.Omega.{arith}
 use Rattle.rules.proofs.Laws.{at-kind}
-use Rattle.engine.proofs.Laws.{and-true, next}
+use Rattle.lists.proofs.Choice.{and-true}
+use Rattle.engine.proofs.Laws.{next}
 use Rattle.engine.specs.Engine.{partiesUp}
 use Rattle.engine.proofs.parties_up.Statement.{statement}
 use Rattle.engine.proofs.parties_up.Tie as tie
-use Rattle.engine.proofs.parties_up.Reads as reads
-use Rattle.engine.proofs.parties_up.Lts as lts
-use Rattle.engine.proofs.client_up.Reads as client-up-reads
-use Rattle.engine.proofs.database_up.Reads as database-up-reads
-use Rattle.engine.proofs.server_up.Reads as server-up-reads
 
 client-up-requires : tie.Need-client-up-requires
 client-up-requires c κs =

@@ -1,13 +1,10 @@
-use mathlib.Core.Path.{refl, sym, ap, _∙_}
+use mathlib.Core.Path.{ap}
 use native.Mathlib.Omega.{arith}
 use lib.Dec.{eqb}
 use Rattle.protocol.specs.Cells.{serverUp}
 use Rattle.rules.proofs.Laws.{server-room, cell-at}
 use Rattle.engine.proofs.server_up.Statement.{statement}
 use Rattle.engine.proofs.server_up.Tie as tie
-use Rattle.engine.proofs.server_up.Reads as reads
-use Rattle.engine.proofs.server_up.Lts as lts
-use Rattle.layout.proofs.server_at.Reads as server-at-reads
 
 server-at-requires : tie.Need-server-at-requires
 server-at-requires c κs = omega (arith, server-room (c .before .args .counts) (c .before .args .table .now) (c .before .pre .0 .long) (c .before .pre .0 .ranged) (c .before .args .server) (c .before .pre .1))

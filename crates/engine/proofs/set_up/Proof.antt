@@ -1,4 +1,4 @@
-use mathlib.Core.Path.{sym, ap, _∙_}
+use mathlib.Core.Path.{sym, _∙_}
 use borrow.Author.Tests.{not-true, not-false}
 use Rattle.lists.proofs.Choice.{true-T}
 use Rattle.layout.proofs.Laws.{tests-ranged}
@@ -6,11 +6,6 @@ use Rattle.engine.proofs.Laws.{not-set-up, is-set-up, wrong-counts, oth
 use borrow.Author.Needs.{needs}
 use Rattle.engine.proofs.set_up.Statement.{statement}
 use Rattle.engine.proofs.set_up.Tie as tie
-use Rattle.engine.proofs.set_up.Reads as reads
-use Rattle.engine.proofs.set_up.Lts as lts
-use Rattle.fresh.proofs.make.Reads as make-reads
-use Rattle.layout.proofs.counts_fit.Reads as counts-fit-reads
-use Rattle.layout.proofs.table_length.Reads as table-length-reads
 
 counts-fit-requires : tie.Need-counts-fit-requires
 counts-fit-requires c κs = search needs

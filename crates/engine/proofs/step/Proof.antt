@@ -2,10 +2,6 @@ use mathlib.Core.Path.{ap, _∙_}
 use borrow.Author.Needs.{needs}
 use Rattle.engine.proofs.step.Statement.{statement}
 use Rattle.engine.proofs.step.Tie as tie
-use Rattle.engine.proofs.step.Reads as reads
-use Rattle.engine.proofs.step.Lts as lts
-use Rattle.engine.proofs.apply.Reads as apply-reads
-use Rattle.engine.proofs.number.Reads as number-reads
 
 apply-requires : tie.Need-apply-requires
 apply-requires c κs = search needs

@@ -4,9 +4,6 @@ use Rattle.gates.proofs.Laws.{positive, nought}
 use borrow.Author.Needs.{needs}
 use Rattle.gates.proofs.clean.Statement.{statement}
 use Rattle.gates.proofs.clean.Tie as tie
-use Rattle.gates.proofs.clean.Reads as reads
-use Rattle.gates.proofs.clean.Lts as lts
-use Rattle.masks.proofs.has.Reads as has-reads
 
 returns : tie.Need-returns
 returns c = rw (nought _ (c .if1 .taken))

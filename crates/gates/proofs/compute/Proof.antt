@@ -1,8 +1,6 @@
 use borrow.Author.Tests.{eq-eqb, ne-eqb}
 use Rattle.gates.proofs.compute.Statement.{statement}
 use Rattle.gates.proofs.compute.Tie as tie
-use Rattle.gates.proofs.compute.Reads as reads
-use Rattle.gates.proofs.compute.Lts as lts
 
 returns : tie.Need-returns
 returns c = rw (ne-eqb _ _ (c .if1 .taken))

@@ -3,9 +3,6 @@ use borrow.Author.Tests.{not-true, not-false}
 use borrow.Author.Needs.{needs}
 use Rattle.gates.proofs.decide.Statement.{statement}
 use Rattle.gates.proofs.decide.Tie as tie
-use Rattle.gates.proofs.decide.Reads as reads
-use Rattle.gates.proofs.decide.Lts as lts
-use Rattle.masks.proofs.has.Reads as has-reads
 
 has-requires : tie.Need-has-requires
 has-requires c κs = search needs

@@ -1,8 +1,6 @@
 use borrow.Author.Needs.{needs}
 use Rattle.gates.proofs.is_accepted.Statement.{statement}
 use Rattle.gates.proofs.is_accepted.Tie as tie
-use Rattle.gates.proofs.is_accepted.Reads as reads
-use Rattle.gates.proofs.is_accepted.Lts as lts
 
 enum-told : tie.Need-enum-told
 enum-told c = search needs

@@ -3,9 +3,6 @@ use Rattle.gates.proofs.Laws.{positive, nought}
 use borrow.Author.Needs.{needs}
 use Rattle.gates.proofs.listens.Statement.{statement}
 use Rattle.gates.proofs.listens.Tie as tie
-use Rattle.gates.proofs.listens.Reads as reads
-use Rattle.gates.proofs.listens.Lts as lts
-use Rattle.masks.proofs.has.Reads as has-reads
 
 returns : tie.Need-returns
 returns c = rw (nought _ (c .if1 .taken))

@@ -1,9 +1,6 @@
 use borrow.Author.Needs.{needs}
 use Rattle.gates.proofs.load.Statement.{statement}
 use Rattle.gates.proofs.load.Tie as tie
-use Rattle.gates.proofs.load.Reads as reads
-use Rattle.gates.proofs.load.Lts as lts
-use Rattle.registers.proofs.read.Reads as read-reads
 
 shared-slice-read-t3 : tie.Need-shared-slice-read-t3
 shared-slice-read-t3 c = search needs

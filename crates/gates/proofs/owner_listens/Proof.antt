@@ -2,9 +2,6 @@ use borrow.Author.Tests.{eq-eqb, ne-eqb}
 use borrow.Author.Needs.{needs}
 use Rattle.gates.proofs.owner_listens.Statement.{statement}
 use Rattle.gates.proofs.owner_listens.Tie as tie
-use Rattle.gates.proofs.owner_listens.Reads as reads
-use Rattle.gates.proofs.owner_listens.Lts as lts
-use Rattle.gates.proofs.listens.Reads as listens-reads
 
 returns : tie.Need-returns
 returns c = rw (ne-eqb _ _ (c .if1 .taken))

@@ -1,8 +1,6 @@
 use Rattle.gates.proofs.Laws.{positive, nought}
 use Rattle.gates.proofs.prepare.Statement.{statement}
 use Rattle.gates.proofs.prepare.Tie as tie
-use Rattle.gates.proofs.prepare.Reads as reads
-use Rattle.gates.proofs.prepare.Lts as lts
 
 returns : tie.Need-returns
 returns c = rw (nought _ (c .if1 .taken))

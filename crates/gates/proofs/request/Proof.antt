@@ -2,9 +2,6 @@ use mathlib.Core.Path.{sym, _∙_}
 use borrow.Author.Needs.{needs}
 use Rattle.gates.proofs.request.Statement.{statement}
 use Rattle.gates.proofs.request.Tie as tie
-use Rattle.gates.proofs.request.Reads as reads
-use Rattle.gates.proofs.request.Lts as lts
-use Rattle.masks.proofs.has.Reads as has-reads
 
 has-requires : tie.Need-has-requires
 has-requires c κs = search needs

@@ -3,9 +3,6 @@ use borrow.Author.Tests.{eq-eqb, ne-eqb}
 use borrow.Author.Needs.{needs}
 use Rattle.gates.proofs.verdict.Statement.{statement}
 use Rattle.gates.proofs.verdict.Tie as tie
-use Rattle.gates.proofs.verdict.Reads as reads
-use Rattle.gates.proofs.verdict.Lts as lts
-use Rattle.masks.proofs.count.Reads as count-reads
 
 count-requires : tie.Need-count-requires
 count-requires c κs = search needs

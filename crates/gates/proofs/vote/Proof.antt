@@ -3,9 +3,6 @@ use borrow.Author.Tests.{eq-eqb, ne-eqb, not-true, not-false}
 use borrow.Author.Needs.{needs}
 use Rattle.gates.proofs.vote.Statement.{statement}
 use Rattle.gates.proofs.vote.Tie as tie
-use Rattle.gates.proofs.vote.Reads as reads
-use Rattle.gates.proofs.vote.Lts as lts
-use Rattle.masks.proofs.has.Reads as has-reads
 
 returns : tie.Need-returns
 returns c = rw (ne-eqb _ _ (c .if1 .taken))

@@ -4,9 +4,6 @@ use Rattle.gates.proofs.Laws.{positive, nought}
 use borrow.Author.Needs.{needs}
 use Rattle.gates.proofs.write.Statement.{statement}
 use Rattle.gates.proofs.write.Tie as tie
-use Rattle.gates.proofs.write.Reads as reads
-use Rattle.gates.proofs.write.Lts as lts
-use Rattle.masks.proofs.has_all.Reads as has-all-reads
 
 returns : tie.Need-returns
 returns c = rw (ne-eqb _ _ (c .if1 .taken))

@@ -4,10 +4,6 @@ use Rattle.kinds.proofs.Laws.{zero-outside, inside-most}
 use borrow.Author.Needs.{needs}
 use Rattle.kinds.proofs.field_fits.Statement.{statement}
 use Rattle.kinds.proofs.field_fits.Tie as tie
-use Rattle.kinds.proofs.field_fits.Reads as reads
-use Rattle.kinds.proofs.field_fits.Lts as lts
-use Rattle.kinds.proofs.largest.Reads as largest-reads
-use Rattle.kinds.proofs.limit.Reads as limit-reads
 
 limit-requires : tie.Need-limit-requires
 limit-requires c κs = search needs

@@ -4,8 +4,6 @@ use Rattle.kinds.proofs.Laws.{largest-rest}
 use borrow.Author.Needs.{needs}
 use Rattle.kinds.proofs.largest.Statement.{statement}
 use Rattle.kinds.proofs.largest.Tie as tie
-use Rattle.kinds.proofs.largest.Reads as reads
-use Rattle.kinds.proofs.largest.Lts as lts
 
 returns : tie.Need-returns
 returns c = search needs

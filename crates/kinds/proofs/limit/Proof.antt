@@ -3,8 +3,6 @@ use Rattle.kinds.specs.Limits.{limitOf}
 use borrow.Author.Needs.{needs}
 use Rattle.kinds.proofs.limit.Statement.{statement}
 use Rattle.kinds.proofs.limit.Tie as tie
-use Rattle.kinds.proofs.limit.Reads as reads
-use Rattle.kinds.proofs.limit.Lts as lts
 
 sub-line : tie.Need-sub-line
 sub-line c = search needs

@@ -2,9 +2,6 @@ use Rattle.table.specs.Layout.{place}
 use borrow.Author.Needs.{needs}
 use Rattle.layout.proofs.client_at.Statement.{statement}
 use Rattle.layout.proofs.client_at.Tie as tie
-use Rattle.layout.proofs.client_at.Reads as reads
-use Rattle.layout.proofs.client_at.Lts as lts
-use Rattle.layout.proofs.clients_start.Reads as clients-start-reads
 
 clients-start-requires : tie.Need-clients-start-requires
 clients-start-requires c κs = search needs

@@ -1,8 +1,6 @@
 use borrow.Author.Tests.{le-leb, lt-leb}
 use Rattle.layout.proofs.count_fits.Statement.{statement}
 use Rattle.layout.proofs.count_fits.Tie as tie
-use Rattle.layout.proofs.count_fits.Reads as reads
-use Rattle.layout.proofs.count_fits.Lts as lts
 
 returns : tie.Need-returns
 returns c = rw (lt-leb _ _ (c .if1 .taken))

@@ -1,12 +1,9 @@
 use mathlib.Core.Path.{sym, _∙_}
 use borrow.Author.Tests.{not-true, not-false}
-use Rattle.layout.proofs.Laws.{and-true}
+use Rattle.lists.proofs.Choice.{and-true}
 use borrow.Author.Needs.{needs}
 use Rattle.layout.proofs.counts_fit.Statement.{statement}
 use Rattle.layout.proofs.counts_fit.Tie as tie
-use Rattle.layout.proofs.counts_fit.Reads as reads
-use Rattle.layout.proofs.counts_fit.Lts as lts
-use Rattle.layout.proofs.count_fits.Reads as count-fits-reads
 
 count-fits-requires : tie.Need-count-fits-requires
 count-fits-requires c κs = search needs

@@ -2,9 +2,6 @@ use Rattle.table.specs.Layout.{place}
 use borrow.Author.Needs.{needs}
 use Rattle.layout.proofs.database_at.Statement.{statement}
 use Rattle.layout.proofs.database_at.Tie as tie
-use Rattle.layout.proofs.database_at.Reads as reads
-use Rattle.layout.proofs.database_at.Lts as lts
-use Rattle.layout.proofs.databases_start.Reads as databases-start-reads
 
 databases-start-requires : tie.Need-databases-start-requires
 databases-start-requires c κs = search needs

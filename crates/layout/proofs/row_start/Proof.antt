@@ -4,10 +4,6 @@ use Rattle.layout.proofs.Laws.{clients-before, cells-before}
 use borrow.Author.Needs.{needs}
 use Rattle.layout.proofs.row_start.Statement.{statement}
 use Rattle.layout.proofs.row_start.Tie as tie
-use Rattle.layout.proofs.row_start.Reads as reads
-use Rattle.layout.proofs.row_start.Lts as lts
-use Rattle.layout.proofs.row_length.Reads as row-length-reads
-use Rattle.layout.proofs.rows_start.Reads as rows-start-reads
 
 sub-before : tie.Need-sub-before
 sub-before c = search needs

@@ -3,8 +3,6 @@ use Rattle.table.specs.Layout.{place}
 use borrow.Author.Needs.{needs}
 use Rattle.layout.proofs.server_at.Statement.{statement}
 use Rattle.layout.proofs.server_at.Tie as tie
-use Rattle.layout.proofs.server_at.Reads as reads
-use Rattle.layout.proofs.server_at.Lts as lts
 
 sub-result : tie.Need-sub-result
 sub-result c = search needs

@@ -4,10 +4,6 @@ use Rattle.layout.proofs.Laws.{rows-most, cells-most}
 use borrow.Author.Needs.{needs}
 use Rattle.layout.proofs.table_length.Statement.{statement}
 use Rattle.layout.proofs.table_length.Tie as tie
-use Rattle.layout.proofs.table_length.Reads as reads
-use Rattle.layout.proofs.table_length.Lts as lts
-use Rattle.layout.proofs.row_length.Reads as row-length-reads
-use Rattle.layout.proofs.rows_start.Reads as rows-start-reads
 
 cast-rows : tie.Need-cast-rows
 cast-rows c = search needs

@@ -8,9 +8,6 @@ use lib.ListN.{getD}
 use Rattle.ranges.proofs.Laws.{Tested, first, next, fails, whole}
 use Rattle.ranges.proofs.acknowledgements_fit.Statement.{statement}
 use Rattle.ranges.proofs.acknowledgements_fit.Tie as tie
-use Rattle.ranges.proofs.acknowledgements_fit.Reads as reads
-use Rattle.ranges.proofs.acknowledgements_fit.Lts as lts
-use Rattle.masks.proofs.all.Reads as all-reads
 
 abbrev Inv-loop : tie.InvT-loop
 Inv-loop row counts before databases server₀ server = Tested (counts .servers) (λ i. leb (getD row (before + i) 0) databases) server

@@ -10,9 +10,6 @@ use Rattle.table.specs.Table.{view}
 use Rattle.ranges.proofs.Laws.{Tested, first, next, fails, whole}
 use Rattle.ranges.proofs.attempts_fit.Statement.{statement}
 use Rattle.ranges.proofs.attempts_fit.Tie as tie
-use Rattle.ranges.proofs.attempts_fit.Reads as reads
-use Rattle.ranges.proofs.attempts_fit.Lts as lts
-use Rattle.ranges.proofs.result_fits.Reads as result-fits-reads
 
 abbrev Inv-loop : tie.InvT-loop
 Inv-loop table counts client attempt₀ attempt = Tested (counts .attempts) (λ k. every (rowTests counts (rowOf (view counts table) client k))) attempt

@@ -1,14 +1,12 @@
 use mathlib.Core.Path.{sym, _∙_}
 use native.Mathlib.Omega.{arith}
 use borrow.Author.Tests.{le-leb, lt-leb}
-use Rattle.layout.proofs.Laws.{and-true, client-inside}
+use Rattle.lists.proofs.Choice.{and-true}
+use Rattle.layout.proofs.Laws.{client-inside}
 use Rattle.ranges.proofs.Laws.{client-tests}
 use borrow.Author.Needs.{needs}
 use Rattle.ranges.proofs.client_fits.Statement.{statement}
 use Rattle.ranges.proofs.client_fits.Tie as tie
-use Rattle.ranges.proofs.client_fits.Reads as reads
-use Rattle.ranges.proofs.client_fits.Lts as lts
-use Rattle.layout.proofs.client_at.Reads as client-at-reads
 
 client-at-requires : tie.Need-client-at-requires
 client-at-requires c κs = search needs

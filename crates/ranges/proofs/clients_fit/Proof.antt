@@ -9,9 +9,6 @@ use Rattle.table.specs.Table.{view}
 use Rattle.ranges.proofs.Laws.{Tested, first, next, fails, whole}
 use Rattle.ranges.proofs.clients_fit.Statement.{statement}
 use Rattle.ranges.proofs.clients_fit.Tie as tie
-use Rattle.ranges.proofs.clients_fit.Reads as reads
-use Rattle.ranges.proofs.clients_fit.Lts as lts
-use Rattle.ranges.proofs.client_fits.Reads as client-fits-reads
 
 abbrev Inv-loop : tie.InvT-loop
 Inv-loop table counts client₀ client = Tested (counts .clients) (λ c. every (clientTests counts (view counts table) c)) client

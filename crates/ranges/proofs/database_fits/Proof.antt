@@ -1,14 +1,12 @@
 use mathlib.Core.Path.{sym, _∙_}
 use native.Mathlib.Omega.{arith}
 use borrow.Author.Tests.{le-leb, lt-leb}
-use Rattle.layout.proofs.Laws.{and-true, database-inside}
+use Rattle.lists.proofs.Choice.{and-true}
+use Rattle.layout.proofs.Laws.{database-inside}
 use Rattle.ranges.proofs.Laws.{database-tests}
 use borrow.Author.Needs.{needs}
 use Rattle.ranges.proofs.database_fits.Statement.{statement}
 use Rattle.ranges.proofs.database_fits.Tie as tie
-use Rattle.ranges.proofs.database_fits.Reads as reads
-use Rattle.ranges.proofs.database_fits.Lts as lts
-use Rattle.layout.proofs.database_at.Reads as database-at-reads
 
 database-at-requires : tie.Need-database-at-requires
 database-at-requires c κs = search needs

@@ -9,9 +9,6 @@ use Rattle.table.specs.Table.{view}
 use Rattle.ranges.proofs.Laws.{Tested, first, next, fails, whole}
 use Rattle.ranges.proofs.databases_fit.Statement.{statement}
 use Rattle.ranges.proofs.databases_fit.Tie as tie
-use Rattle.ranges.proofs.databases_fit.Reads as reads
-use Rattle.ranges.proofs.databases_fit.Lts as lts
-use Rattle.ranges.proofs.database_fits.Reads as database-fits-reads
 
 abbrev Inv-loop : tie.InvT-loop
 Inv-loop table counts database₀ database = Tested (counts .databases) (λ d. every (databaseTests counts (view counts table) d)) database

@@ -1,16 +1,10 @@
 use mathlib.Core.Path.{sym, _∙_}
 use borrow.Author.Tests.{not-true, not-false}
 use Rattle.protocol.specs.Numbers.{inRange}
-use Rattle.layout.proofs.Laws.{and-true}
+use Rattle.lists.proofs.Choice.{and-true}
 use borrow.Author.Needs.{needs}
 use Rattle.ranges.proofs.in_range.Statement.{statement}
 use Rattle.ranges.proofs.in_range.Tie as tie
-use Rattle.ranges.proofs.in_range.Reads as reads
-use Rattle.ranges.proofs.in_range.Lts as lts
-use Rattle.ranges.proofs.clients_fit.Reads as clients-fit-reads
-use Rattle.ranges.proofs.databases_fit.Reads as databases-fit-reads
-use Rattle.ranges.proofs.rows_fit.Reads as rows-fit-reads
-use Rattle.ranges.proofs.servers_fit.Reads as servers-fit-reads
 
 servers-fit-requires : tie.Need-servers-fit-requires
 servers-fit-requires c κs = search needs

@@ -5,11 +5,6 @@ use Rattle.ranges.proofs.Laws.{lent-fits}
 use borrow.Author.Needs.{needs}
 use Rattle.ranges.proofs.result_fits.Statement.{statement}
 use Rattle.ranges.proofs.result_fits.Tie as tie
-use Rattle.ranges.proofs.result_fits.Reads as reads
-use Rattle.ranges.proofs.result_fits.Lts as lts
-use Rattle.layout.proofs.row_length.Reads as row-length-reads
-use Rattle.layout.proofs.row_start.Reads as row-start-reads
-use Rattle.ranges.proofs.row_fits.Reads as row-fits-reads
 
 row-start-requires : tie.Need-row-start-requires
 row-start-requires c κs = search needs

@@ -1,16 +1,10 @@
 use mathlib.Core.Path.{sym, _∙_}
 use borrow.Author.Tests.{not-true, not-false}
-use Rattle.layout.proofs.Laws.{and-true}
+use Rattle.lists.proofs.Choice.{and-true}
 use Rattle.ranges.proofs.Laws.{row-grouped}
 use borrow.Author.Needs.{needs}
 use Rattle.ranges.proofs.row_fits.Statement.{statement}
 use Rattle.ranges.proofs.row_fits.Tie as tie
-use Rattle.ranges.proofs.row_fits.Reads as reads
-use Rattle.ranges.proofs.row_fits.Lts as lts
-use Rattle.ranges.proofs.acknowledgements_fit.Reads as acknowledgements-fit-reads
-use Rattle.ranges.proofs.beginning_fits.Reads as beginning-fits-reads
-use Rattle.ranges.proofs.ending_fits.Reads as ending-fits-reads
-use Rattle.ranges.proofs.votes_fit.Reads as votes-fit-reads
 
 beginning-fits-requires : tie.Need-beginning-fits-requires
 beginning-fits-requires c κs = search needs

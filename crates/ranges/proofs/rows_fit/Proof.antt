@@ -10,9 +10,6 @@ use Rattle.table.specs.Table.{view}
 use Rattle.ranges.proofs.Laws.{Tested, first, next, fails, whole}
 use Rattle.ranges.proofs.rows_fit.Statement.{statement}
 use Rattle.ranges.proofs.rows_fit.Tie as tie
-use Rattle.ranges.proofs.rows_fit.Reads as reads
-use Rattle.ranges.proofs.rows_fit.Lts as lts
-use Rattle.ranges.proofs.attempts_fit.Reads as attempts-fit-reads
 
 abbrev Inv-loop : tie.InvT-loop
 Inv-loop table counts client₀ client =

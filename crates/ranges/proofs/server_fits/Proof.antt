@@ -1,15 +1,12 @@
 use mathlib.Core.Path.{sym, _∙_}
 use native.Mathlib.Omega.{arith}
 use borrow.Author.Tests.{le-leb, lt-leb}
-use Rattle.layout.proofs.Laws.{and-true, server-inside}
+use Rattle.lists.proofs.Choice.{and-true}
+use Rattle.layout.proofs.Laws.{server-inside}
 use Rattle.ranges.proofs.Laws.{server-tests}
 use borrow.Author.Needs.{needs}
 use Rattle.ranges.proofs.server_fits.Statement.{statement}
 use Rattle.ranges.proofs.server_fits.Tie as tie
-use Rattle.ranges.proofs.server_fits.Reads as reads
-use Rattle.ranges.proofs.server_fits.Lts as lts
-use Rattle.layout.proofs.server_at.Reads as server-at-reads
-use Rattle.masks.proofs.all.Reads as all-reads
 
 server-at-requires : tie.Need-server-at-requires
 server-at-requires c κs = search needs

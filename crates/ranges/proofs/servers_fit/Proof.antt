@@ -9,9 +9,6 @@ use Rattle.table.specs.Table.{view}
 use Rattle.ranges.proofs.Laws.{Tested, first, next, fails, whole}
 use Rattle.ranges.proofs.servers_fit.Statement.{statement}
 use Rattle.ranges.proofs.servers_fit.Tie as tie
-use Rattle.ranges.proofs.servers_fit.Reads as reads
-use Rattle.ranges.proofs.servers_fit.Lts as lts
-use Rattle.ranges.proofs.server_fits.Reads as server-fits-reads
 
 abbrev Inv-loop : tie.InvT-loop
 Inv-loop table counts server₀ server = Tested (counts .servers) (λ i. every (serverTests counts (view counts table) i)) server

@@ -8,12 +8,6 @@ use Rattle.rows.proofs.Laws.{read-at, marked-at}
 use borrow.Author.Needs.{needs}
 use Rattle.rows.proofs.ack.Statement.{statement}
 use Rattle.rows.proofs.ack.Tie as tie
-use Rattle.rows.proofs.ack.Reads as reads
-use Rattle.rows.proofs.ack.Lts as lts
-use Rattle.masks.proofs.has.Reads as has-reads
-use Rattle.masks.proofs.with.Reads as with-reads
-use Rattle.rows.proofs.acked_at.Reads as acked-at-reads
-use Rattle.rows.proofs.known_at.Reads as known-at-reads
 
 acked-at-requires : tie.Need-acked-at-requires
 acked-at-requires c κs = search needs
@@ -62,8 +56,10 @@ returns-2 c =
     let n = s .args .counts in
     let l = s .args .row .now in
     let there = in-inside (n .servers) (s .args .server) (s .pre .1 .0 .0) (s .pre .1 .0 .1) in
-    rw (ap (λ x. has x (s .args .database)) (sym (read-at n l (acked (s .args .server)) _ there (c .before .before .before .before .before .before .acked-at .ensures n))) ∙ sym (c .before .before .before .before .has .ensures) ∙ not-false _ (c .before .before .before .if1 .left),
-    sym (marked-at n l (known (s .args .server)) (s .args .database) _ _ there (c .before .before .known-at .ensures) (c .with .ensures)))
+    rw (
+      ap (λ x. has x (s .args .database)) (sym (read-at n l (acked (s .args .server)) _ there (c .before .before .before .before .before .before .acked-at .ensures n))) ∙ sym (c .before .before .before .before .has .ensures) ∙ not-false _ (c .before .before .before .if1 .left),
+      sym (marked-at n l (known (s .args .server)) (s .args .database) _ _ there (c .before .before .known-at .ensures) (c .with .ensures)),
+    )
 
 pub ack-spec : {M : Type 1} → statement M
 ack-spec =

@@ -5,10 +5,6 @@ use Rattle.rows.proofs.Laws.{marked-at}
 use borrow.Author.Needs.{needs}
 use Rattle.rows.proofs.acknowledge.Statement.{statement}
 use Rattle.rows.proofs.acknowledge.Tie as tie
-use Rattle.rows.proofs.acknowledge.Reads as reads
-use Rattle.rows.proofs.acknowledge.Lts as lts
-use Rattle.masks.proofs.with.Reads as with-reads
-use Rattle.rows.proofs.acked_at.Reads as acked-at-reads
 
 acked-at-requires : tie.Need-acked-at-requires
 acked-at-requires c κs = search needs

@@ -1,9 +1,6 @@
 use borrow.Author.Needs.{needs}
 use Rattle.rows.proofs.call.Statement.{statement}
 use Rattle.rows.proofs.call.Tie as tie
-use Rattle.rows.proofs.call.Reads as reads
-use Rattle.rows.proofs.call.Lts as lts
-use Rattle.masks.proofs.with.Reads as with-reads
 
 slice-read-with : tie.Need-slice-read-with
 slice-read-with c = search needs

@@ -1,9 +1,6 @@
 use borrow.Author.Needs.{needs}
 use Rattle.rows.proofs.call_all.Statement.{statement}
 use Rattle.rows.proofs.call_all.Tie as tie
-use Rattle.rows.proofs.call_all.Reads as reads
-use Rattle.rows.proofs.call_all.Lts as lts
-use Rattle.masks.proofs.all.Reads as all-reads
 
 all-requires : tie.Need-all-requires
 all-requires c κs = search needs

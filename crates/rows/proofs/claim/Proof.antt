@@ -2,9 +2,6 @@ use Rattle.rows.proofs.Laws.{lent-claim}
 use borrow.Author.Needs.{needs}
 use Rattle.rows.proofs.claim.Statement.{statement}
 use Rattle.rows.proofs.claim.Tie as tie
-use Rattle.rows.proofs.claim.Reads as reads
-use Rattle.rows.proofs.claim.Lts as lts
-use Rattle.registers.proofs.claim.Reads as claim-reads
 
 sub-claim : tie.Need-sub-claim
 sub-claim c = search needs

@@ -1,16 +1,9 @@
-use mathlib.Core.Path.{sym, ap, _∙_, refl}
 use Rattle.table.specs.Table.{rowView}
 use Rattle.rows.proofs.Laws.{went, stayed}
 use Rattle.protocol.specs.Rules.{cleanRule}
 use borrow.Author.Needs.{needs}
 use Rattle.rows.proofs.clean.Statement.{statement}
 use Rattle.rows.proofs.clean.Tie as tie
-use Rattle.rows.proofs.clean.Reads as reads
-use Rattle.rows.proofs.clean.Lts as lts
-use Rattle.gates.proofs.clean.Reads as clean-reads
-use Rattle.gates.proofs.is_accepted.Reads as is-accepted-reads
-use Rattle.gates.proofs.load.Reads as load-reads
-use Rattle.rows.proofs.sweep.Reads as sweep-reads
 
 load-requires : tie.Need-load-requires
 load-requires c κs = search needs

@@ -1,15 +1,10 @@
-use mathlib.Core.Path.{sym, ap, _∙_, refl}
+use mathlib.Core.Path.{refl}
 use Rattle.table.specs.Table.{rowView}
 use Rattle.rows.proofs.Laws.{went, stayed}
 use Rattle.protocol.specs.Rules.{computeRule}
 use borrow.Author.Needs.{needs}
 use Rattle.rows.proofs.compute.Statement.{statement}
 use Rattle.rows.proofs.compute.Tie as tie
-use Rattle.rows.proofs.compute.Reads as reads
-use Rattle.rows.proofs.compute.Lts as lts
-use Rattle.gates.proofs.compute.Reads as compute-reads
-use Rattle.gates.proofs.is_accepted.Reads as is-accepted-reads
-use Rattle.gates.proofs.load.Reads as load-reads
 
 load-requires : tie.Need-load-requires
 load-requires c κs = search needs

@@ -1,4 +1,4 @@
-use mathlib.Core.Path.{sym, ap, _∙_, refl}
+use mathlib.Core.Path.{_∙_}
 use Rattle.table.specs.Table.{rowView}
 use Rattle.rows.proofs.Laws.{went, stayed}
 use Rattle.protocol.specs.Rules.{decideRule}
@@ -7,13 +7,6 @@ use Rattle.rows.proofs.Laws.{acknowledged, decide-given}
 use borrow.Author.Needs.{needs}
 use Rattle.rows.proofs.decide.Statement.{statement}
 use Rattle.rows.proofs.decide.Tie as tie
-use Rattle.rows.proofs.decide.Reads as reads
-use Rattle.rows.proofs.decide.Lts as lts
-use Rattle.gates.proofs.decide.Reads as decide-reads
-use Rattle.gates.proofs.is_accepted.Reads as is-accepted-reads
-use Rattle.gates.proofs.load.Reads as load-reads
-use Rattle.rows.proofs.acknowledge.Reads as acknowledge-reads
-use Rattle.rows.proofs.obey.Reads as obey-reads
 
 load-requires : tie.Need-load-requires
 load-requires c κs = search needs

@@ -4,10 +4,6 @@ use Rattle.rows.proofs.Laws.{kept}
 use borrow.Author.Needs.{needs}
 use Rattle.rows.proofs.hear.Statement.{statement}
 use Rattle.rows.proofs.hear.Tie as tie
-use Rattle.rows.proofs.hear.Reads as reads
-use Rattle.rows.proofs.hear.Lts as lts
-use Rattle.masks.proofs.put.Reads as put-reads
-use Rattle.masks.proofs.with.Reads as with-reads
 
 slice-read-put : tie.Need-slice-read-put
 slice-read-put c = search needs

@@ -1,17 +1,9 @@
-use mathlib.Core.Path.{sym, ap, _∙_, refl}
 use Rattle.table.specs.Table.{rowView}
 use Rattle.rows.proofs.Laws.{went, stayed}
 use Rattle.protocol.specs.Rules.{readyRule}
 use borrow.Author.Needs.{needs}
 use Rattle.rows.proofs.hear_ready.Statement.{statement}
 use Rattle.rows.proofs.hear_ready.Tie as tie
-use Rattle.rows.proofs.hear_ready.Reads as reads
-use Rattle.rows.proofs.hear_ready.Lts as lts
-use Rattle.gates.proofs.is_accepted.Reads as is-accepted-reads
-use Rattle.gates.proofs.load.Reads as load-reads
-use Rattle.gates.proofs.owner_listens.Reads as owner-listens-reads
-use Rattle.gates.proofs.ready.Reads as ready-reads
-use Rattle.rows.proofs.hear.Reads as hear-reads
 
 load-requires : tie.Need-load-requires
 load-requires c κs = search needs

@@ -2,9 +2,6 @@ use Rattle.rows.proofs.Laws.{lent-offer}
 use borrow.Author.Needs.{needs}
 use Rattle.rows.proofs.offer.Statement.{statement}
 use Rattle.rows.proofs.offer.Tie as tie
-use Rattle.rows.proofs.offer.Reads as reads
-use Rattle.rows.proofs.offer.Lts as lts
-use Rattle.registers.proofs.offer.Reads as offer-reads
 
 sub-offer : tie.Need-sub-offer
 sub-offer c = search needs

@@ -1,16 +1,9 @@
-use mathlib.Core.Path.{sym, ap, _∙_, refl}
 use Rattle.table.specs.Table.{rowView}
 use Rattle.rows.proofs.Laws.{went, stayed}
 use Rattle.protocol.specs.Rules.{prepareRule}
 use borrow.Author.Needs.{needs}
 use Rattle.rows.proofs.prepare.Statement.{statement}
 use Rattle.rows.proofs.prepare.Tie as tie
-use Rattle.rows.proofs.prepare.Reads as reads
-use Rattle.rows.proofs.prepare.Lts as lts
-use Rattle.gates.proofs.is_accepted.Reads as is-accepted-reads
-use Rattle.gates.proofs.load.Reads as load-reads
-use Rattle.gates.proofs.prepare.Reads as prepare-reads
-use Rattle.rows.proofs.cast.Reads as cast-reads
 
 load-requires : tie.Need-load-requires
 load-requires c κs = search needs

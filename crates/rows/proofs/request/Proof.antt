@@ -1,16 +1,9 @@
-use mathlib.Core.Path.{sym, ap, _∙_, refl}
 use Rattle.table.specs.Table.{rowView}
 use Rattle.rows.proofs.Laws.{went, stayed}
 use Rattle.protocol.specs.Rules.{requestRule}
 use borrow.Author.Needs.{needs}
 use Rattle.rows.proofs.request.Statement.{statement}
 use Rattle.rows.proofs.request.Tie as tie
-use Rattle.rows.proofs.request.Reads as reads
-use Rattle.rows.proofs.request.Lts as lts
-use Rattle.gates.proofs.is_accepted.Reads as is-accepted-reads
-use Rattle.gates.proofs.load.Reads as load-reads
-use Rattle.gates.proofs.request.Reads as request-reads
-use Rattle.rows.proofs.claim.Reads as claim-reads
 
 load-requires : tie.Need-load-requires
 load-requires c κs = search needs

@@ -1,7 +1,6 @@
 use Rattle.protocol.specs.Cells.{outcome, known}
 use Rattle.table.specs.Table.{rowView}
 use mathlib.Core.Path.{sym, ap, _∙_}
-use native.Mathlib.Omega.{arith}
 use Rattle.lists.proofs.Choice.{in-inside}
 use lib.Dec.{ltb}
 use Rattle.masks.specs.Mask.{hasAll}
@@ -12,11 +11,6 @@ use Rattle.rows.proofs.Laws.{read-at, never}
 use borrow.Author.Needs.{needs}
 use Rattle.rows.proofs.result.Statement.{statement}
 use Rattle.rows.proofs.result.Tie as tie
-use Rattle.rows.proofs.result.Reads as reads
-use Rattle.rows.proofs.result.Lts as lts
-use Rattle.masks.proofs.has_all.Reads as has-all-reads
-use Rattle.registers.proofs.read.Reads as read-reads
-use Rattle.rows.proofs.known_at.Reads as known-at-reads
 
 shared-slice-read-read : tie.Need-shared-slice-read-read
 shared-slice-read-read c = search needs

@@ -1,9 +1,7 @@
 use mathlib.Core.Path.{sym}
-use Rattle.rows.proofs.Laws.{and-false, and-true}
+use Rattle.lists.proofs.Choice.{and-false, and-true}
 use Rattle.rows.proofs.says.Statement.{statement}
 use Rattle.rows.proofs.says.Tie as tie
-use Rattle.rows.proofs.says.Reads as reads
-use Rattle.rows.proofs.says.Lts as lts
 
 returns : tie.Need-returns
 returns c = rw (c .if1 .taken) (sym (and-false (c .before .args .yes)))

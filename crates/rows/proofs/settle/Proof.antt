@@ -6,10 +6,6 @@ use Rattle.rows.proofs.Laws.{settled}
 use borrow.Author.Needs.{needs}
 use Rattle.rows.proofs.settle.Statement.{statement}
 use Rattle.rows.proofs.settle.Tie as tie
-use Rattle.rows.proofs.settle.Reads as reads
-use Rattle.rows.proofs.settle.Lts as lts
-use Rattle.rows.proofs.offer.Reads as offer-reads
-use Rattle.rows.proofs.terminate.Reads as terminate-reads
 
 offer-requires : tie.Need-offer-requires
 offer-requires c κs = search needs

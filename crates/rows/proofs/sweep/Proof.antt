@@ -1,15 +1,10 @@
 use mathlib.Core.Path.{ap, _∙_}
 use native.Mathlib.Omega.{arith}
-use lib.ListN.{length-set}
 use Rattle.registers.specs.Register.{holding}
 use Rattle.rows.proofs.Laws.{swept, offers-abort}
 use borrow.Author.Needs.{needs}
 use Rattle.rows.proofs.sweep.Statement.{statement}
 use Rattle.rows.proofs.sweep.Tie as tie
-use Rattle.rows.proofs.sweep.Reads as reads
-use Rattle.rows.proofs.sweep.Lts as lts
-use Rattle.rows.proofs.offer.Reads as offer-reads
-use Rattle.rows.proofs.terminate.Reads as terminate-reads
 
 offer-requires : tie.Need-offer-requires
 offer-requires c κs = search needs

@@ -1,9 +1,6 @@
 use borrow.Author.Needs.{needs}
 use Rattle.rows.proofs.terminate.Statement.{statement}
 use Rattle.rows.proofs.terminate.Tie as tie
-use Rattle.rows.proofs.terminate.Reads as reads
-use Rattle.rows.proofs.terminate.Lts as lts
-use Rattle.masks.proofs.with.Reads as with-reads
 
 enum-told : tie.Need-enum-told
 enum-told c = search needs

@@ -1,18 +1,9 @@
-use mathlib.Core.Path.{sym, ap, _∙_, refl}
 use Rattle.table.specs.Table.{rowView}
 use Rattle.rows.proofs.Laws.{went, stayed}
 use Rattle.protocol.specs.Rules.{voteRule}
 use borrow.Author.Needs.{needs}
 use Rattle.rows.proofs.vote.Statement.{statement}
 use Rattle.rows.proofs.vote.Tie as tie
-use Rattle.rows.proofs.vote.Reads as reads
-use Rattle.rows.proofs.vote.Lts as lts
-use Rattle.gates.proofs.is_accepted.Reads as is-accepted-reads
-use Rattle.gates.proofs.listens.Reads as listens-reads
-use Rattle.gates.proofs.load.Reads as load-reads
-use Rattle.gates.proofs.vote.Reads as vote-reads
-use Rattle.masks.proofs.has.Reads as has-reads
-use Rattle.rows.proofs.hear.Reads as hear-reads
 
 load-requires : tie.Need-load-requires
 load-requires c κs = search needs

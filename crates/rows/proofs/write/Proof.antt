@@ -1,20 +1,13 @@
 use Rattle.gates.specs.Gates.{asRow}
 use native.Mathlib.Omega.{arith}
 use Rattle.rows.proofs.Laws.{verdict-decides}
-use mathlib.Core.Path.{sym, ap, _∙_, refl}
+use mathlib.Core.Path.{sym, _∙_}
 use Rattle.table.specs.Table.{rowView}
 use Rattle.rows.proofs.Laws.{went, stayed}
 use Rattle.protocol.specs.Rules.{writeRule}
 use borrow.Author.Needs.{needs}
 use Rattle.rows.proofs.write.Statement.{statement}
 use Rattle.rows.proofs.write.Tie as tie
-use Rattle.rows.proofs.write.Reads as reads
-use Rattle.rows.proofs.write.Lts as lts
-use Rattle.gates.proofs.is_accepted.Reads as is-accepted-reads
-use Rattle.gates.proofs.load.Reads as load-reads
-use Rattle.gates.proofs.verdict.Reads as verdict-reads
-use Rattle.gates.proofs.write.Reads as write-reads
-use Rattle.rows.proofs.settle.Reads as settle-reads
 
 load-requires : tie.Need-load-requires
 load-requires c κs = search needs

@@ -1,4 +1,4 @@
-use mathlib.Core.Path.{refl, sym, ap, _∙_}
+use mathlib.Core.Path.{ap, _∙_}
 use native.Mathlib.Omega.{arith}
 use lib.ListN.{set, length-set}
 use Rattle.lists.proofs.Choice.{inside-high}
@@ -7,10 +7,6 @@ use Rattle.rules.proofs.Laws.{client-room, phase-at, next-in, advanced}
 use borrow.Author.Needs.{needs}
 use Rattle.rules.proofs.advance.Statement.{statement}
 use Rattle.rules.proofs.advance.Tie as tie
-use Rattle.rules.proofs.advance.Reads as reads
-use Rattle.rules.proofs.advance.Lts as lts
-use Rattle.layout.proofs.client_at.Reads as client-at-reads
-use Rattle.rules.proofs.call.Reads as call-reads
 
 client-at-requires : tie.Need-client-at-requires
 client-at-requires c κs = omega (arith, client-room (c .before .args .counts) (c .before .args .table .now) (c .before .pre .0 .long) (c .before .pre .0 .ranged) (c .before .args .client) (c .before .pre .1 .0))

@@ -1,4 +1,4 @@
-use mathlib.Core.Path.{refl, sym, ap, _∙_}
+use mathlib.Core.Path.{sym, _∙_}
 use native.Mathlib.Omega.{arith}
 use native.Mathlib.Nat.{add-sub-cancel-left}
 use Rattle.rules.specs.Rules.{rowRule}
@@ -6,13 +6,6 @@ use Rattle.rules.proofs.Laws.{numbered, row-room, lent-long, lent-owner
 use borrow.Author.Needs.{needs}
 use Rattle.rules.proofs.at_row.Statement.{statement}
 use Rattle.rules.proofs.at_row.Tie as tie
-use Rattle.rules.proofs.at_row.Reads as reads
-use Rattle.rules.proofs.at_row.Lts as lts
-use Rattle.layout.proofs.row_length.Reads as row-length-reads
-use Rattle.layout.proofs.row_start.Reads as row-start-reads
-use Rattle.rules.proofs.follow_row.Reads as follow-row-reads
-use Rattle.rules.proofs.ready_of.Reads as ready-of-reads
-use Rattle.rules.proofs.suspects_of.Reads as suspects-of-reads
 
 ready-of-requires : tie.Need-ready-of-requires
 ready-of-requires c κs = search needs

@@ -1,19 +1,13 @@
-use mathlib.Core.Path.{refl, sym, ap, _∙_}
+use mathlib.Core.Path.{_∙_}
 use native.Mathlib.Omega.{arith}
 use native.Mathlib.Nat.{add-sub-cancel-left}
 use mathlib.Core.List.{[], _∷_}
 use Rattle.masks.specs.Mask.{all}
 use Rattle.protocol.specs.Cells.{sent}
-use Rattle.protocol.specs.Rules.{calls}
 use Rattle.rules.proofs.Laws.{numbered, row-room, lent-effect}
 use borrow.Author.Needs.{needs}
 use Rattle.rules.proofs.call_all.Statement.{statement}
 use Rattle.rules.proofs.call_all.Tie as tie
-use Rattle.rules.proofs.call_all.Reads as reads
-use Rattle.rules.proofs.call_all.Lts as lts
-use Rattle.layout.proofs.row_length.Reads as row-length-reads
-use Rattle.layout.proofs.row_start.Reads as row-start-reads
-use Rattle.rows.proofs.call_all.Reads as call-all-reads
 
 row-start-requires : tie.Need-row-start-requires
 row-start-requires c κs =

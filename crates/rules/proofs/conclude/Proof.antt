@@ -1,4 +1,4 @@
-use mathlib.Core.Path.{refl, sym, ap, _∙_}
+use mathlib.Core.Path.{sym, ap, _∙_}
 use native.Mathlib.Omega.{arith}
 use native.Mathlib.Nat.{add-sub-cancel-left}
 use borrow.Author.Tests.{eq-eqb, ne-eqb}
@@ -6,14 +6,6 @@ use Rattle.rules.proofs.Laws.{client-room, row-room, numbered, phase-is
 use borrow.Author.Needs.{needs}
 use Rattle.rules.proofs.conclude.Statement.{statement}
 use Rattle.rules.proofs.conclude.Tie as tie
-use Rattle.rules.proofs.conclude.Reads as reads
-use Rattle.rules.proofs.conclude.Lts as lts
-use Rattle.gates.proofs.load.Reads as load-reads
-use Rattle.layout.proofs.client_at.Reads as client-at-reads
-use Rattle.layout.proofs.row_length.Reads as row-length-reads
-use Rattle.layout.proofs.row_start.Reads as row-start-reads
-use Rattle.rules.proofs.advance.Reads as advance-reads
-use Rattle.rules.proofs.deliver.Reads as deliver-reads
 
 client-at-requires : tie.Need-client-at-requires
 client-at-requires c κs = omega (arith, client-room (c .before .args .counts) (c .before .args .table .now) (c .before .pre .0 .long) (c .before .pre .0 .ranged) (c .before .args .client) (c .before .pre .1 .0))

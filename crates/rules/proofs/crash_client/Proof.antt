@@ -1,4 +1,4 @@
-use mathlib.Core.Path.{refl, sym, ap, _∙_}
+use mathlib.Core.Path.{refl, ap}
 use native.Mathlib.Omega.{arith}
 use lib.ListN.{set}
 use Rattle.protocol.specs.Rules.{clientCrashRule}
@@ -6,9 +6,6 @@ use Rattle.rules.proofs.Laws.{client-room, followed-by}
 use borrow.Author.Needs.{needs}
 use Rattle.rules.proofs.crash_client.Statement.{statement}
 use Rattle.rules.proofs.crash_client.Tie as tie
-use Rattle.rules.proofs.crash_client.Reads as reads
-use Rattle.rules.proofs.crash_client.Lts as lts
-use Rattle.layout.proofs.client_at.Reads as client-at-reads
 
 client-at-requires : tie.Need-client-at-requires
 client-at-requires c κs = omega (arith, client-room (c .before .args .counts) (c .before .args .table .now) (c .before .pre .0 .long) (c .before .pre .0 .ranged) (c .before .args .client) (c .before .pre .1))

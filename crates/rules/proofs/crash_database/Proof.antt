@@ -1,4 +1,4 @@
-use mathlib.Core.Path.{refl, sym, ap, _∙_}
+use mathlib.Core.Path.{refl, ap}
 use native.Mathlib.Omega.{arith}
 use lib.ListN.{set}
 use Rattle.protocol.specs.Rules.{databaseCrashRule}
@@ -6,9 +6,6 @@ use Rattle.rules.proofs.Laws.{database-room, followed-by}
 use borrow.Author.Needs.{needs}
 use Rattle.rules.proofs.crash_database.Statement.{statement}
 use Rattle.rules.proofs.crash_database.Tie as tie
-use Rattle.rules.proofs.crash_database.Reads as reads
-use Rattle.rules.proofs.crash_database.Lts as lts
-use Rattle.layout.proofs.database_at.Reads as database-at-reads
 
 database-at-requires : tie.Need-database-at-requires
 database-at-requires c κs = omega (arith, database-room (c .before .args .counts) (c .before .args .table .now) (c .before .pre .0 .long) (c .before .pre .0 .ranged) (c .before .args .database) (c .before .pre .1))

@@ -1,4 +1,4 @@
-use mathlib.Core.Path.{refl, sym, ap, _∙_}
+use mathlib.Core.Path.{refl, ap}
 use native.Mathlib.Omega.{arith}
 use lib.ListN.{set}
 use Rattle.protocol.specs.Rules.{serverCrashRule}
@@ -6,9 +6,6 @@ use Rattle.rules.proofs.Laws.{server-room, followed-by}
 use borrow.Author.Needs.{needs}
 use Rattle.rules.proofs.crash_server.Statement.{statement}
 use Rattle.rules.proofs.crash_server.Tie as tie
-use Rattle.rules.proofs.crash_server.Reads as reads
-use Rattle.rules.proofs.crash_server.Lts as lts
-use Rattle.layout.proofs.server_at.Reads as server-at-reads
 
 server-at-requires : tie.Need-server-at-requires
 server-at-requires c κs = omega (arith, server-room (c .before .args .counts) (c .before .args .table .now) (c .before .pre .0 .long) (c .before .pre .0 .ranged) (c .before .args .server) (c .before .pre .1))

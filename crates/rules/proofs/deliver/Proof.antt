@@ -4,9 +4,6 @@ use Rattle.rules.proofs.Laws.{client-room, phase-at, delivered-at}
 use borrow.Author.Needs.{needs}
 use Rattle.rules.proofs.deliver.Statement.{statement}
 use Rattle.rules.proofs.deliver.Tie as tie
-use Rattle.rules.proofs.deliver.Reads as reads
-use Rattle.rules.proofs.deliver.Lts as lts
-use Rattle.layout.proofs.client_at.Reads as client-at-reads
 
 client-at-requires : tie.Need-client-at-requires
 client-at-requires c κs = omega (arith, client-room (c .before .args .counts) (c .before .args .table .now) (c .before .pre .0 .long) (c .before .pre .0 .ranged) (c .before .args .client) (c .before .pre .1))

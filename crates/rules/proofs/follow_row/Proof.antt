@@ -2,17 +2,6 @@ use Rattle.rules.proofs.Laws.{at-kind, numbered, no-row}
 use borrow.Author.Needs.{needs}
 use Rattle.rules.proofs.follow_row.Statement.{statement}
 use Rattle.rules.proofs.follow_row.Tie as tie
-use Rattle.rules.proofs.follow_row.Reads as reads
-use Rattle.rules.proofs.follow_row.Lts as lts
-use Rattle.rows.proofs.ack.Reads as ack-reads
-use Rattle.rows.proofs.clean.Reads as clean-reads
-use Rattle.rows.proofs.compute.Reads as compute-reads
-use Rattle.rows.proofs.decide.Reads as decide-reads
-use Rattle.rows.proofs.hear_ready.Reads as hear-ready-reads
-use Rattle.rows.proofs.prepare.Reads as prepare-reads
-use Rattle.rows.proofs.request.Reads as request-reads
-use Rattle.rows.proofs.vote.Reads as vote-reads
-use Rattle.rows.proofs.write.Reads as write-reads
 
 request-requires : tie.Need-request-requires
 request-requires c κs =

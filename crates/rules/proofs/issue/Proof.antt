@@ -1,6 +1,6 @@
-use mathlib.Core.Path.{refl, sym, ap, _∙_}
+use mathlib.Core.Path.{sym, _∙_}
 use native.Mathlib.Omega.{arith}
-use lib.ListN.{set, length-set}
+use lib.ListN.{length-set}
 use Rattle.table.specs.Table.{view}
 use borrow.Author.Tests.{eq-eqb, ne-eqb}
 use Rattle.protocol.specs.Rules.{issueRule}
@@ -8,10 +8,6 @@ use Rattle.lists.proofs.Choice.{in-inside}
 use Rattle.rules.proofs.Laws.{client-room, refused, followed-by, phase-is, issued}
 use Rattle.rules.proofs.issue.Statement.{statement}
 use Rattle.rules.proofs.issue.Tie as tie
-use Rattle.rules.proofs.issue.Reads as reads
-use Rattle.rules.proofs.issue.Lts as lts
-use Rattle.layout.proofs.client_at.Reads as client-at-reads
-use Rattle.rules.proofs.call.Reads as call-reads
 
 client-at-requires : tie.Need-client-at-requires
 client-at-requires c κs = omega (arith, client-room (c .before .args .counts) (c .before .args .table .now) (c .before .pre .0 .long) (c .before .pre .0 .ranged) (c .before .args .client) (c .before .pre .1))

@@ -1,4 +1,4 @@
-use mathlib.Core.Path.{refl, sym, ap, _∙_}
+use mathlib.Core.Path.{sym, ap, _∙_}
 use native.Mathlib.Omega.{arith}
 use lib.ListN.{set, length-set}
 use Prim.Native.Nat.{_+_}
@@ -12,9 +12,6 @@ use Rattle.rules.proofs.Laws.{database-room, refused, followed-by, cell
 use borrow.Author.Needs.{needs}
 use Rattle.rules.proofs.recover.Statement.{statement}
 use Rattle.rules.proofs.recover.Tie as tie
-use Rattle.rules.proofs.recover.Reads as reads
-use Rattle.rules.proofs.recover.Lts as lts
-use Rattle.layout.proofs.database_at.Reads as database-at-reads
 
 database-at-requires : tie.Need-database-at-requires
 database-at-requires c κs = omega (arith, database-room (c .before .args .counts) (c .before .args .table .now) (c .before .pre .0 .long) (c .before .pre .0 .ranged) (c .before .args .database) (c .before .pre .1))

@@ -1,4 +1,4 @@
-use mathlib.Core.Path.{refl, sym, ap, _∙_}
+use mathlib.Core.Path.{_∙_}
 use native.Mathlib.Omega.{arith}
 use native.Mathlib.Nat.{add-sub-cancel-left}
 use Rattle.protocol.specs.Rules.{resultRule}
@@ -7,13 +7,6 @@ use Rattle.rules.proofs.Laws.{numbered, row-room, lent-long, result-num
 use borrow.Author.Needs.{needs}
 use Rattle.rules.proofs.result.Statement.{statement}
 use Rattle.rules.proofs.result.Tie as tie
-use Rattle.rules.proofs.result.Reads as reads
-use Rattle.rules.proofs.result.Lts as lts
-use Rattle.gates.proofs.is_accepted.Reads as is-accepted-reads
-use Rattle.layout.proofs.row_length.Reads as row-length-reads
-use Rattle.layout.proofs.row_start.Reads as row-start-reads
-use Rattle.rows.proofs.result.Reads as result-reads
-use Rattle.rules.proofs.conclude.Reads as conclude-reads
 
 row-start-requires : tie.Need-row-start-requires
 row-start-requires c κs =

@@ -1,4 +1,4 @@
-use mathlib.Core.Path.{refl, sym, ap, _∙_}
+use mathlib.Core.Path.{sym, ap, _∙_}
 use native.Mathlib.Omega.{arith}
 use Prim.Native.Nat.{_+_}
 use lib.ListN.{set}
@@ -13,10 +13,6 @@ use Rattle.rules.proofs.Laws.{server-room, refused, followed-by, cell-a
 use borrow.Author.Needs.{needs}
 use Rattle.rules.proofs.suspect.Statement.{statement}
 use Rattle.rules.proofs.suspect.Tie as tie
-use Rattle.rules.proofs.suspect.Reads as reads
-use Rattle.rules.proofs.suspect.Lts as lts
-use Rattle.layout.proofs.server_at.Reads as server-at-reads
-use Rattle.masks.proofs.with.Reads as with-reads
 
 returns : tie.Need-returns
 returns c =
@@ -42,7 +38,6 @@ with-requires c κs =
     let s = c .before .before .before .before in
     let n = s .args .counts in
     let t = s .args .table .now in
-    
     let l = inside-low (n .servers) (s .args .other) (s .pre .1 .1) in
     let h = inside-high (n .servers) (s .args .other) (s .pre .1 .1) in
     omega (arith, s .pre .0 .ranged .servers8)

@@ -1,4 +1,4 @@
-use mathlib.Core.Path.{refl, sym, ap, _∙_}
+use mathlib.Core.Path.{sym, ap, _∙_}
 use native.Mathlib.Omega.{arith}
 use mathlib.Core.List.{[], _∷_}
 use Rattle.masks.specs.Mask.{all}
@@ -10,10 +10,6 @@ use Rattle.rules.proofs.Laws.{client-room, refused, followed-by, phase-
 use borrow.Author.Needs.{needs}
 use Rattle.rules.proofs.timeout.Statement.{statement}
 use Rattle.rules.proofs.timeout.Tie as tie
-use Rattle.rules.proofs.timeout.Reads as reads
-use Rattle.rules.proofs.timeout.Lts as lts
-use Rattle.layout.proofs.client_at.Reads as client-at-reads
-use Rattle.rules.proofs.call_all.Reads as call-all-reads
 
 client-at-requires : tie.Need-client-at-requires
 client-at-requires c κs = omega (arith, client-room (c .before .args .counts) (c .before .args .table .now) (c .before .pre .0 .long) (c .before .pre .0 .ranged) (c .before .args .client) (c .before .pre .1))
