@@ -1,0 +1,3 @@
+mod Again
+mod Listed
+mod Asked

@@ -1,0 +1,89 @@
+-- The list job's invariant, with no word of the machine: i records of rs are accepted, ts are the cells after them, and what is left to say of the rest of the list is what is said of the whole.
+--     Facts            the invariant.        Said      what is said at the end: the three fields of `ran`
+--     starts, goes-on, stops, ended      it holds at the start; an accepted record keeps it; a refused one, and the end of the list, give the answers
+-- Assumes nothing.
+use mathlib.Core.Path.{_≡_, refl, sym, _∙_, ap, subst}
+use Prim.Native.Nat.{ℕ, zero, suc, _+_, _<_, _≤_, zero-le}
+use native.Mathlib.Nat.{not-suc-le-zero, le-of-suc-le-suc, zero-add, add-zero, add-suc, suc-add}
+use native.Mathlib.Numerals.{add-one}
+use mathlib.Core.List.{List, [], _∷_}
+use borrow.Author.Tests.{ne-eqb}
+use lib.ListN.{length, getD, drop, drop-of-length-le}
+use Rattle.protocol.specs.declared.Event.{Event as Record}
+use Rattle.table.specs.Jobs.{tableNumber, applied, Ran, oneMore, stopped, runFrom, ran}
+use Rattle.table.proofs.Runs.{ran-unsound}
+use Rattle.table.proofs.Soundness.{refused-untouched}
+
+drop-next : {X : Type 0} (xs : List X) (i : ℕ) (d : X) → i < length xs → drop i xs ≡ getD xs i d ∷ drop (suc i) xs
+drop-next [] i d less = absurd (not-suc-le-zero less)
+drop-next (x ∷ xs) zero d less = refl
+drop-next (x ∷ xs) (suc i) d less = drop-next xs i d (le-of-suc-le-suc less)
+
+-- ---- what a run from some cells on is, by the list's first record
+
+from-none : (t : List ℕ) → runFrom t [] ≡ stopped 0 t
+unfolding runFrom
+from-none t = refl
+
+from-accepted : (t : List ℕ) (r : Record) (rs : List Record) → applied t r .number ≡ 0 → runFrom t (r ∷ rs) ≡ oneMore (runFrom (applied t r .cells) rs)
+unfolding runFrom
+from-accepted t r rs z = rw z refl
+
+from-refused : (t : List ℕ) (r : Record) (rs : List Record) → (applied t r .number ≡ 0 → ⊥) → runFrom t (r ∷ rs) ≡ stopped (applied t r .number) t
+unfolding runFrom
+from-refused t r rs refused = rw (ne-eqb (applied t r .number) 0 refused) refl
+
+ran-from : (t : List ℕ) (rs : List Record) → tableNumber t ≡ 0 → ran t rs ≡ runFrom t rs
+unfolding ran
+ran-from t rs sound = rw sound refl
+
+refused-leaves : (t : List ℕ) (r : Record) → (applied t r .number ≡ 0 → ⊥) → applied t r .cells ≡ t
+unfolding applied
+refused-leaves t r refused = refused-untouched t r refused
+
+module _ (ys : List ℕ) (rs : List Record) where
+  -- what a run says: how many are accepted, the refusal, the cells that are left
+  abbrev Says : Ran → ℕ → ℕ → List ℕ → Type 0
+  Says run accepted number ts = (accepted ≡ run .accepted) × (number ≡ run .refusal) × (ts ≡ run .cells)
+
+  abbrev pub Said : ℕ → ℕ → List ℕ → Type 0
+  Said accepted number ts = Says (ran ys rs) accepted number ts
+
+  -- the run from ts, behind the first i records, is what is left of the whole run
+  abbrev Left : ℕ → Ran → Type 0
+  Left i rest = Says (runFrom ys rs) (i + rest .accepted) (rest .refusal) (rest .cells)
+
+  abbrev pub Facts : ℕ → List ℕ → Type 0
+  Facts i ts = (i ≤ length rs) × (length ts ≡ length ys) × Left i (runFrom ts (drop i rs))
+
+  pub starts : Facts 0 ys
+  starts = (zero-le, refl, (zero-add _, refl, refl))
+
+  pub unsound : (n : ℕ) → n ≡ tableNumber ys → (n ≡ 0 → ⊥) → Said 0 n ys
+  unsound n is other = subst (λ run. Says run 0 n ys) (sym (ran-unsound ys rs (λ z. other (is ∙ z)))) (refl, is, refl)
+
+  -- a run that stops behind i records of a sound table gives the answers
+  stopped-there : (i number : ℕ) (ts : List ℕ) → tableNumber ys ≡ 0 → runFrom ts (drop i rs) ≡ stopped number ts → Facts i ts → Said i number ts
+  stopped-there i number ts sound ends f =
+      let left = subst (Left i) ends (f .2) in
+      subst (λ run. Says run i number ts) (sym (ran-from ys rs sound)) (sym (add-zero i) ∙ left .0, left .1, left .2)
+
+  pub ended : (i : ℕ) (ts : List ℕ) → tableNumber ys ≡ 0 → Facts i ts → length rs ≤ i → Said i 0 ts
+  ended i ts sound f over = stopped-there i 0 ts sound (ap (runFrom ts) (drop-of-length-le rs over) ∙ from-none ts) f
+
+  module _ (i : ℕ) (ts : List ℕ) (d : Record) (less : i < length rs) where
+    abbrev r : Record
+    r = getD rs i d
+
+    next : runFrom ts (drop i rs) ≡ runFrom ts (r ∷ drop (suc i) rs)
+    next = ap (runFrom ts) (drop-next rs i d less)
+
+    pub stops : tableNumber ys ≡ 0 → Facts i ts → (applied ts r .number ≡ 0 → ⊥) → Said i (applied ts r .number) (applied ts r .cells)
+    stops sound f refused =
+        let said = stopped-there i (applied ts r .number) ts sound (next ∙ from-refused ts r (drop (suc i) rs) refused) f in
+        (said .0, said .1, refused-leaves ts r refused ∙ said .2)
+
+    pub goes-on : Facts i ts → applied ts r .number ≡ 0 → length (applied ts r .cells) ≡ length ts → Facts (i + 1) (applied ts r .cells)
+    goes-on f accepted long =
+        let left = subst (Left i) (next ∙ from-accepted ts r (drop (suc i) rs) accepted) (f .2) in
+        subst (λ (j : ℕ). Facts j (applied ts r .cells)) (sym (add-one i)) (less, long ∙ f .1, (suc-add i _ ∙ sym (add-suc i _) ∙ left .0, left .1, left .2))

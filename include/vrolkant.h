@@ -1,0 +1,58 @@
+/* The engine's jobs, as librunner.a exports them (`rt staticlib runner`, x86-64 Linux).
+   Each function is proved to meet its contract in crates/runner/src/lib.rt for every table, length, count and event. No call has a precondition but what
+   C itself asks: `table` points to `length` cells that may be written and that no one else touches during the call, `events` to `count` records. */
+#ifndef VROLKANT_H
+#define VROLKANT_H
+
+#include <stddef.h>
+#include <stdint.h>
+
+#ifdef __cplusplus
+extern "C" {
+#endif
+
+/* The numbers given back: always the lowest that applies. */
+enum {
+    VROLKANT_ACCEPTED = 0,     /* accepted */
+    VROLKANT_WRONG_SIZE = 1,   /* a count outside its range, or a table of another length */
+    VROLKANT_OUT_OF_RANGE = 2, /* a cell not in range */
+    VROLKANT_UNKNOWN_KIND = 3, /* no event has this kind */
+    VROLKANT_WRONG_FIELD = 4,  /* a field outside its range, or not 0 where it must be */
+    VROLKANT_PARTY_DOWN = 5,   /* a party that acts is down */
+    VROLKANT_NOT_SENT = 6,     /* the message was not sent */
+    VROLKANT_MUST_NOT = 7      /* the event must not happen now */
+};
+
+/* An event record. A field that its kind does not use is 0. */
+struct vrolkant_event {
+    uint16_t kind;
+    uint16_t client;
+    uint16_t attempt;
+    uint16_t server;
+    uint16_t database;
+    uint16_t value;
+};
+
+/* What the list job answers: how many events were accepted, and the number of the refusal, or 0 at the end of the list. */
+struct vrolkant_ran {
+    size_t accepted;
+    uint16_t refusal;
+};
+
+/* How many cells the table of a setup has, or 0 where a count is outside its range: clients, servers and databases from 1 to 8, attempts from 1 to 16. */
+size_t vrolkant_table_length(uint16_t clients, uint16_t servers, uint16_t databases, uint16_t attempts);
+
+/* Sets up a fresh table: 0, or 1 and no cell changed. */
+uint16_t vrolkant_set_up(uint16_t *table, size_t length, uint16_t clients, uint16_t servers, uint16_t databases, uint16_t attempts);
+
+/* Applies one event: 0, or why it is refused and no cell changed. */
+uint16_t vrolkant_apply(uint16_t *table, size_t length, uint16_t kind, uint16_t client, uint16_t attempt, uint16_t server, uint16_t database, uint16_t value);
+
+/* Applies events in order and stops at the first refusal; the table is left as the accepted ones made it. An empty list still asks 1 and 2 of the table. */
+struct vrolkant_ran vrolkant_run(uint16_t *table, size_t length, const struct vrolkant_event *events, size_t count);
+
+#ifdef __cplusplus
+}
+#endif
+
+#endif
