@@ -1,0 +1,5 @@
+pub mod Endings
+pub mod Script
+pub mod Playing
+pub mod Whole
+pub mod Length
