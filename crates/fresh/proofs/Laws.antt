@@ -1,5 +1,5 @@
 -- One turn of each loop, and that the code's writes to a cleared table make the fresh one.
-use mathlib.Core.Path.{_≡_, refl, sym, ap, _∙_}
+use mathlib.Core.Path.{_≡_, refl, ap, _∙_}
 use mathlib.Core.List.{List, [], _∷_, _++_, append-assoc, append-nil}
 use Prim.Native.Nat.{ℕ, zero, suc, _+_, _-_, _*_, _≤_, _<_}
 use native.Mathlib.Nat.{mul-zero, mul-suc}
@@ -11,6 +11,7 @@ use Rattle.protocol.specs.declared.Counts.{Counts}
 use Rattle.protocol.specs.Cells.{serverUp, databaseUp, clientUp}
 use Rattle.table.specs.Layout.{rowLength, serversStart, databasesStart, clientsStart, rowsStart, place, tableLength}
 use Rattle.table.specs.Table.{repeated, freshTable}
+use Rattle.table.proofs.Fresh.{repeated-length}
 use Rattle.fresh.specs.Writes.{headed, raised}
 
 -- ---- the loops
@@ -68,8 +69,7 @@ abbrev party : ℕ → List ℕ
 party others = 1 ∷ replicate others 0
 
 parties-length : (others count : ℕ) → length (repeated count (party others)) ≡ suc others * count
-parties-length others zero = sym (mul-zero (suc others))
-parties-length others (suc count) = simp (length-append, length-replicate, parties-length others count, mul-suc) (omega arith)
+parties-length others count = repeated-length count (party others) ∙ ap (λ n. suc n * count) (length-replicate others 0)
 
 -- the up cells raised in a part that is all zeros
 raised-zeros : (others count start : ℕ) (before behind : List ℕ) → length before ≡ start

@@ -4,7 +4,6 @@ ghost use Prim.Native.Nat.{_+_, _*_, _≤_};
 ghost use lib.ListN.{length, replicate};
 ghost use Rattle.table.specs.Layout.{tableLength};
 ghost use Rattle.table.specs.Table.{freshTable};
-ghost use Rattle.layout.specs.Ranged.{Ranged};
 ghost use Rattle.fresh.specs.Writes.{headed, raised};
 use protocol::Counts;
 
@@ -47,7 +46,6 @@ fn raise(table: &mut [u16], start: usize, width: usize, count: u16)
 // The fresh table.
 pub fn make(table: &mut [u16], counts: Counts)
     requires { ⌜ length (now table) ≡ tableLength counts ⌝ }
-    requires { ⌜ Ranged counts ⌝ }
     ensures { λ _. ⌜ now (table .exit) ≡ freshTable counts ⌝ }
 {
     clear(table);

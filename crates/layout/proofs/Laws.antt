@@ -16,7 +16,6 @@ use Rattle.table.specs.Table.{view}
 use Rattle.table.proofs.Places.{place-inside, rows-before, row-end}
 use Rattle.layout.specs.Ranged.{Ranged}
 
--- the last test of a list
 -- ---- the counts
 
 pub tests-ranged : (n : Counts) → T (every (countTests n)) → Ranged n

@@ -29,11 +29,11 @@ module _ (place : ℕ) (cells : List ℕ) (e : Event) (more : Script) where
   unfolding played
   accepted-cells h = rw h
 
-  refused-text : (applied cells e .number ≡ 0 → ⊥) → played place cells (event e more) .text ≡ line (place ∷ applied cells e .number ∷ [])
+  pub refused-text : (applied cells e .number ≡ 0 → ⊥) → played place cells (event e more) .text ≡ line (place ∷ applied cells e .number ∷ [])
   unfolding played
   refused-text h = rw (ne-eqb (applied cells e .number) 0 h) (append-nil _)
 
-  refused-cells : (applied cells e .number ≡ 0 → ⊥) → played place cells (event e more) .cells ≡ applied cells e .cells
+  pub refused-cells : (applied cells e .number ≡ 0 → ⊥) → played place cells (event e more) .cells ≡ applied cells e .cells
   unfolding played
   refused-cells h = rw (ne-eqb (applied cells e .number) 0 h)
 

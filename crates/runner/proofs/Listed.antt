@@ -3,39 +3,20 @@
 --     starts, goes-on, stops, ended      it holds at the start; an accepted record keeps it; a refused one, and the end of the list, give the answers
 -- Assumes nothing.
 use mathlib.Core.Path.{_≡_, refl, sym, _∙_, ap, subst}
-use Prim.Native.Nat.{ℕ, zero, suc, _+_, _<_, _≤_, zero-le}
-use native.Mathlib.Nat.{not-suc-le-zero, le-of-suc-le-suc, zero-add, add-zero, add-suc, suc-add}
+use Prim.Native.Nat.{ℕ, suc, _+_, _<_, _≤_, zero-le}
+use native.Mathlib.Nat.{zero-add, add-zero, add-suc, suc-add}
 use native.Mathlib.Numerals.{add-one}
 use mathlib.Core.List.{List, [], _∷_}
-use borrow.Author.Tests.{ne-eqb}
 use lib.ListN.{length, getD, drop, drop-of-length-le}
+use lib.Seq.{drop-cons}
 use Rattle.protocol.specs.declared.Event.{Event as Record}
-use Rattle.table.specs.Jobs.{tableNumber, applied, Ran, oneMore, stopped, runFrom, ran}
-use Rattle.table.proofs.Runs.{ran-unsound}
+use Rattle.table.specs.Jobs.{tableNumber, applied, Ran, stopped, runFrom, ran}
+use Rattle.table.proofs.Runs.{ran-unsound, ran-from, from-accepted, from-refused}
 use Rattle.table.proofs.Soundness.{refused-untouched}
-
-drop-next : {X : Type 0} (xs : List X) (i : ℕ) (d : X) → i < length xs → drop i xs ≡ getD xs i d ∷ drop (suc i) xs
-drop-next [] i d less = absurd (not-suc-le-zero less)
-drop-next (x ∷ xs) zero d less = refl
-drop-next (x ∷ xs) (suc i) d less = drop-next xs i d (le-of-suc-le-suc less)
-
--- ---- what a run from some cells on is, by the list's first record
 
 from-none : (t : List ℕ) → runFrom t [] ≡ stopped 0 t
 unfolding runFrom
 from-none t = refl
-
-from-accepted : (t : List ℕ) (r : Record) (rs : List Record) → applied t r .number ≡ 0 → runFrom t (r ∷ rs) ≡ oneMore (runFrom (applied t r .cells) rs)
-unfolding runFrom
-from-accepted t r rs z = rw z refl
-
-from-refused : (t : List ℕ) (r : Record) (rs : List Record) → (applied t r .number ≡ 0 → ⊥) → runFrom t (r ∷ rs) ≡ stopped (applied t r .number) t
-unfolding runFrom
-from-refused t r rs refused = rw (ne-eqb (applied t r .number) 0 refused) refl
-
-ran-from : (t : List ℕ) (rs : List Record) → tableNumber t ≡ 0 → ran t rs ≡ runFrom t rs
-unfolding ran
-ran-from t rs sound = rw sound refl
 
 refused-leaves : (t : List ℕ) (r : Record) → (applied t r .number ≡ 0 → ⊥) → applied t r .cells ≡ t
 unfolding applied
@@ -76,7 +57,7 @@ module _ (ys : List ℕ) (rs : List Record) where
     r = getD rs i d
 
     next : runFrom ts (drop i rs) ≡ runFrom ts (r ∷ drop (suc i) rs)
-    next = ap (runFrom ts) (drop-next rs i d less)
+    next = ap (runFrom ts) (drop-cons rs i d less)
 
     pub stops : tableNumber ys ≡ 0 → Facts i ts → (applied ts r .number ≡ 0 → ⊥) → Said i (applied ts r .number) (applied ts r .cells)
     stops sound f refused =

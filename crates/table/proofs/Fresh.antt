@@ -24,7 +24,7 @@ use Rattle.table.proofs.Accepts.{sound-table}
 
 -- ---- cells repeated
 
-repeated-length : (n : ℕ) (cells : List ℕ) → length (repeated n cells) ≡ length cells * n
+pub repeated-length : (n : ℕ) (cells : List ℕ) → length (repeated n cells) ≡ length cells * n
 repeated-length zero cells = sym (mul-zero (length cells))
 repeated-length (suc n) cells = simp (length-append, repeated-length n cells, mul-suc) (omega arith)
 

@@ -94,16 +94,16 @@ unfolding ran runFrom
 ran-empty t = by-eq (tableNumber t) 0 (λ z. rw z refl) (ran-unsound t [])
 
 -- once 1 and 2 are asked
-ran-from : (t : List ℕ) (rs : List Record) → tableNumber t ≡ 0 → ran t rs ≡ runFrom t rs
+pub ran-from : (t : List ℕ) (rs : List Record) → tableNumber t ≡ 0 → ran t rs ≡ runFrom t rs
 unfolding ran
 ran-from t rs z = rw z refl
 
 module _ (t : List ℕ) (r : Record) (rs : List Record) where
-  from-accepted : applied t r .number ≡ 0 → runFrom t (r ∷ rs) ≡ oneMore (runFrom (applied t r .cells) rs)
+  pub from-accepted : applied t r .number ≡ 0 → runFrom t (r ∷ rs) ≡ oneMore (runFrom (applied t r .cells) rs)
   unfolding runFrom
   from-accepted z = rw z refl
 
-  from-refused : (applied t r .number ≡ 0 → ⊥) → runFrom t (r ∷ rs) ≡ stopped (applied t r .number) t
+  pub from-refused : (applied t r .number ≡ 0 → ⊥) → runFrom t (r ∷ rs) ≡ stopped (applied t r .number) t
   unfolding runFrom
   from-refused refused = rw (ne-eqb (applied t r .number) 0 refused) refl
 

@@ -20,7 +20,7 @@ returns-2 : tie.Need-returns-2
 returns-2 c = not-set-up (c .before .before .before .before .before .args .table .now) (c .before .before .before .before .before .args .counts) (other-length (c .before .before .before .before .before .args .counts) (c .before .before .before .before .before .args .table .now) (λ e. c .if2 .taken (e ∙ sym (c .before .table-length .ensures))))
 
 make-requires : tie.Need-make-requires
-make-requires c κs = ((c .before .if2 .left ∙ c .before .before .table-length .ensures), tests-ranged _ (true-T _ (sym (c .before .before .before .before .counts-fit .ensures) ∙ not-false _ (c .before .before .before .if1 .left))))
+make-requires c κs = c .before .if2 .left ∙ c .before .before .table-length .ensures
 
 same-length : tie.Need-same-length
 same-length c = search needs

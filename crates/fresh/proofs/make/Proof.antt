@@ -12,7 +12,7 @@ write-header-requires : tie.Need-write-header-requires
 write-header-requires c κs =
     let cleared = c .before .before .before in
     let start = cleared .before .before .before in
-    omega (arith, parties-inside (start .args .counts), start .pre .0, cleared .clear .kept .0)
+    omega (arith, parties-inside (start .args .counts), start .pre, cleared .clear .kept .0)
 
 server-at-requires : tie.Need-server-at-requires
 server-at-requires c κs = search needs
@@ -29,7 +29,7 @@ raise-requires c κs =
         c .server-at .ensures n,
         servers-first n,
         parties-inside n,
-        start .pre .0,
+        start .pre,
         cleared .clear .kept .0,
         header .write-header .kept .0,
       ),
@@ -51,7 +51,7 @@ raise-requires-2 c κs =
         c .database-at .ensures,
         databases-first n,
         parties-inside n,
-        start .pre .0,
+        start .pre,
         cleared .clear .kept .0,
         header .write-header .kept .0,
         servers .raise .kept .0,
@@ -75,7 +75,7 @@ raise-requires-3 c κs =
         c .client-at .ensures,
         clients-first n,
         parties-inside n,
-        start .pre .0,
+        start .pre,
         cleared .clear .kept .0,
         header .write-header .kept .0,
         servers .raise .kept .0,
@@ -105,7 +105,7 @@ returns c =
       header .write-header .ensures,
       cleared .clear .ensures,
     )
-    (made n (start .args .table .now) (start .pre .0))
+    (made n (start .args .table .now) (start .pre))
 
 pub make-spec : {M : Type 1} → statement M
 make-spec =
