@@ -2,7 +2,7 @@
 
 BEGIN {
     width = 820; height = 470
-    left = 76; right = 168; top = 78; bottom = 64
+    left = 76; right = 170; top = 78; bottom = 64
     ink = "#222222"; faint = "#dddddd"
     colour["proved"] = "#1b5e9e"; colour["peer"] = "#c4540a"
     name["proved"] = "proved library"; name["peer"] = "plain C peer"
@@ -52,7 +52,7 @@ function text(x, y, anchor, fill, more, words) {
     printf "<text x=\"%.1f\" y=\"%.1f\" text-anchor=\"%s\" fill=\"%s\"%s>%s</text>\n", x, y, anchor, fill, more, words
 }
 
-function draw_axes(    mark, step) {
+function draw_axes(    mark, step, middle) {
     step = step_for(end_time)
     for (mark = 0; mark <= end_time + step / 2; mark += step) {
         line(left, upward(mark), width - right, upward(mark), mark == 0 ? ink : faint, 1)
@@ -65,7 +65,8 @@ function draw_axes(    mark, step) {
     }
     line(left, top, left, height - bottom, ink, 1)
     text((left + width - right) / 2, height - 18, "middle", ink, "", "cells of the table")
-    text(22, (top + height - bottom) / 2, "middle", ink, sprintf(" transform=\"rotate(-90 22 %.1f)\"", (top + height - bottom) / 2), "microseconds per event")
+    middle = (top + height - bottom) / 2
+    text(22, middle, "middle", ink, sprintf(" transform=\"rotate(-90 22 %.1f)\"", middle), "microseconds per event")
 }
 
 # The marks differ in shape too, for readers who do not see the colours.
@@ -84,18 +85,18 @@ function draw_curve(side,    point) {
     }
 }
 
+function draw_name(side, y) {
+    text(width - right + 12, y, "start", colour[side], " font-weight=\"bold\"", name[side])
+    text(width - right + 12, y + 17, "start", colour[side], "", sprintf("%.2f µs at %s cells", time[side, points], grouped(cells[points])))
+}
+
 # The names stand at the ends of the curves, the lower one kept clear of the upper.
-function draw_names(    x, y, upper, lower, place) {
+function draw_names(    upper, lower, y) {
     upper = time["proved", points] >= time["peer", points] ? "proved" : "peer"
     lower = upper == "proved" ? "peer" : "proved"
-    x = across(cells[points]) + 14
-    y[upper] = upward(time[upper, points])
-    y[lower] = upward(time[lower, points])
-    if (y[lower] < y[upper] + 40) y[lower] = y[upper] + 40
-    for (place in y) {
-        text(x, y[place], "start", colour[place], " font-weight=\"bold\"", name[place])
-        text(x, y[place] + 17, "start", colour[place], "", sprintf("%.2f µs at %s cells", time[place, points], grouped(cells[points])))
-    }
+    y = upward(time[upper, points])
+    draw_name(upper, y)
+    draw_name(lower, upward(time[lower, points]) < y + 40 ? y + 40 : upward(time[lower, points]))
 }
 
 END {
@@ -105,7 +106,8 @@ END {
     }
     end_cells = up_to_step(most_cells, step_for(most_cells))
     end_time = up_to_step(most_time, step_for(most_time))
-    printf "<svg xmlns=\"http://www.w3.org/2000/svg\" viewBox=\"0 0 %d %d\" width=\"%d\" height=\"%d\" role=\"img\" font-family=\"sans-serif\" font-size=\"13\">\n", width, height, width, height
+    printf "<svg xmlns=\"http://www.w3.org/2000/svg\" viewBox=\"0 0 %d %d\" width=\"%d\" height=\"%d\" role=\"img\"", width, height, width, height
+    print " font-family=\"sans-serif\" font-size=\"13\">"
     print "<title>Time of apply per event against the length of the table, proved library and plain C peer</title>"
     printf "<rect width=\"%d\" height=\"%d\" fill=\"#ffffff\"/>\n", width, height
     text(left, 30, "start", ink, " font-size=\"17\" font-weight=\"bold\"", "Apply looks over the whole table at every event")

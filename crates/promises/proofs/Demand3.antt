@@ -9,20 +9,23 @@ use Rattle.lists.specs.Tests.{every}
 use Rattle.masks.specs.Mask.{has}
 use Rattle.protocol.specs.declared.Counts.{Counts}
 use Rattle.protocol.specs.declared.Event.{Event as Record}
-use Rattle.protocol.specs.Cells.{fresh, row, votedYes, decided}
-use Rattle.protocol.specs.Events.{Event, recordOf}
-use Rattle.protocol.specs.Numbers.{countTests}
+use Rattle.protocol.specs.Cells.{fresh, serverUp, row, votedYes, decided, known}
+use Rattle.protocol.specs.Events.{Event, recordOf, decide-arrives, ack-arrives, server-crashes}
+use Rattle.protocol.specs.Numbers.{countTests, refusal}
 use Rattle.protocol.specs.Machine as machine
 use Rattle.protocol.specs.Agreement.{Id}
 use Rattle.protocol.specs.Progress as plans
 use Rattle.protocol.specs.Progress.{Open}
+use Rattle.protocol.proofs.Records.{one-event}
 use Rattle.protocol.proofs.Progress.{progress}
+use Rattle.protocol.proofs.Acknowledged as acknowledged
 use Rattle.protocol.proofs.Open as open-vote
 use Rattle.table.specs.Table.{view, freshTable}
-use Rattle.table.proofs.Runs.{stands}
+use Rattle.table.specs.Jobs.{applied}
+use Rattle.table.proofs.Runs.{record-does, stands}
 use Rattle.promises.specs.Lists.{Accepted, after}
-use Rattle.promises.specs.Progress.{Settled, Progress}
-use Rattle.promises.proofs.Transfer.{from-fresh, progress-carries}
+use Rattle.promises.specs.Progress.{Never, Then, Settled, Progress}
+use Rattle.promises.proofs.Transfer.{from-fresh, progress-carries, acknowledgement-carries}
 
 -- for every list of records accepted whole from a fresh table
 pub demand-3 : (n : Counts) → T (every (countTests n)) → (list : List Record) → Accepted (freshTable n) list
@@ -31,6 +34,24 @@ demand-3 n counts list accepted =
     let (events, stand) = from-fresh n list accepted in
     progress-carries n (after (freshTable n) list) (stand .table)
     (subst (plans.Progress n) (sym (stand .leads)) (progress n events (stand .accepts)))
+
+-- "an acknowledgement is due as soon as its own decision has arrived": that of any server i that is up then, after anything accepted but a crash of i
+pub acknowledgement-due : (n : Counts) → T (every (countTests n)) → (list : List Record) → Accepted (freshTable n) list → (c k i d : ℕ)
+    → (let t = after (freshTable n) list in
+    let decide = recordOf (decide-arrives c k i d) in
+    applied t decide .number ≡ 0 → view n t (serverUp i) ≡ 1
+    → Then (λ gap q. Never (server-crashes i) gap) (ack-arrives c k i d) (λ q. T (has (view n q (row c k (known i))) d)) (applied t decide .cells))
+acknowledgement-due n counts list accepted c k i d arrives up =
+    let (events, stand) = from-fresh n list accepted in
+    let t = after (freshTable n) list in
+    let e = decide-arrives c k i d in
+    let (other, does) = record-does n t (recordOf e) (stand .table .counts) arrives in
+    let same = one-event other e (does .same) in
+    let accepts = subst (λ s. refusal n s e ≡ 0) (stand .leads) (subst (λ x. refusal n (view n t) x ≡ 0) same (does .accepts)) in
+    let leads = does .leads ∙ ap (machine.next n (view n t)) same ∙ ap (λ s. machine.next n s e) (stand .leads) in
+    acknowledgement-carries n c k i d (applied t (recordOf e) .cells) (does .table)
+    (subst (plans.Then n (λ gap q. plans.Never (server-crashes i) gap) (ack-arrives c k i d) (λ q. T (has (q (row c k (known i))) d))) (sym leads)
+    (acknowledged.acknowledgement-due n events (stand .accepts) c k i d accepts (subst (λ s. s (serverUp i) ≡ 1) (stand .leads) up)))
 
 -- "a vote is open when it is yes and its database has not decided since it was cast": over the events that the list stands for, that is a yes
 -- in the table whose database has not decided

@@ -2,9 +2,11 @@
 use mathlib.Core.Path.{_≡_, sym, ap, subst, _∙_}
 use mathlib.Core.List.{List, [], _∷_, map}
 use Prim.Native.Nat.{ℕ}
+use lib.Dec.{T}
+use Rattle.masks.specs.Mask.{has}
 use Rattle.protocol.specs.declared.Counts.{Counts}
 use Rattle.protocol.specs.declared.Event.{Event as Record}
-use Rattle.protocol.specs.Cells.{Name, State, fresh, clientUp, databaseUp, phase, attempt, row, owner}
+use Rattle.protocol.specs.Cells.{Name, State, fresh, clientUp, databaseUp, phase, attempt, row, owner, known}
 use Rattle.protocol.specs.Events.{Event, recordOf, suspect, trust, clean, decide-arrives, ack-arrives, result-arrives, server-crashes}
 use Rattle.protocol.specs.Numbers.{refusal}
 use Rattle.protocol.specs.Machine.{next}
@@ -124,3 +126,15 @@ module _ (n : Counts) where
       (andThen (withoutBoth (server-crashes i) (trust i (view n t (row c k owner)))) (clean c k i)
       (andEach (λ d. isUp (databaseUp d)) (decide-arrives c k i) ds (decides c k i)))
       .carries t table (progress c k i is-client is-attempt is-server owned other up ds covers)
+
+  -- an acknowledgement that is due, and then known
+  pub acknowledgement-carries : (c k i d : ℕ) (t : List ℕ) → TableOf n t
+      → machine.Then n (λ gap q. machine.Never (server-crashes i) gap) (ack-arrives c k i d) (λ q. T (has (q (row c k (known i))) d)) (view n t)
+      → Then (λ gap q. Never (server-crashes i) gap) (ack-arrives c k i d) (λ q. T (has (view n q (row c k (known i))) d)) t
+  acknowledgement-carries c k i d =
+      andThen (without (server-crashes i)) (ack-arrives c k i d) (record {
+        ofState = λ q. T (has (q (row c k (known i))) d);
+        ofTable = λ q. T (has (view n q (row c k (known i))) d);
+        carries = λ t table knows. knows;
+      })
+      .carries

@@ -16,3 +16,4 @@ pub mod Later
 pub mod Plan
 pub mod Progress
 pub mod Open
+pub mod Acknowledged

@@ -91,10 +91,10 @@ module _ (n : Counts) (c k i : ℕ) (is-client : Id (n .clients) c) (is-attempt 
     up : s (serverUp i) ≡ 1
     acks : Everyone n (s (row c k (acked i)))
 
-  abbrev Knows : State → ℕ → Type 0
+  abbrev pub Knows : State → ℕ → Type 0
   Knows s d = T (has (s (row c k (known i))) d)
 
-  knows-now : (s : State) (d : ℕ) → 1 ≤ d → Knows (next n s (ack-arrives c k i d)) d
+  pub knows-now : (s : State) (d : ℕ) → 1 ≤ d → Knows (next n s (ack-arrives c k i d)) d
   unfolding next
   knows-now s d low = at-row (λ r. T (has (r (known i)) d)) s c k (ackRule i d (rowOf s c k) .writes) (mark-at (s (row c k (known i))) i d low)
 
@@ -134,10 +134,10 @@ module _ (n : Counts) (c k i : ℕ) (is-client : Id (n .clients) c) (is-attempt 
   -- ---- the decisions
 
   -- the database has decided, and has acknowledged it to server i
-  abbrev Obeyed : State → ℕ → Type 0
+  abbrev pub Obeyed : State → ℕ → Type 0
   Obeyed s d = T (has (s (row c k decided)) d) × T (has (s (row c k (acked i))) d)
 
-  obeyed-now : (s : State) (d : ℕ) → 1 ≤ d → Obeyed (next n s (decide-arrives c k i d)) d
+  pub obeyed-now : (s : State) (d : ℕ) → 1 ≤ d → Obeyed (next n s (decide-arrives c k i d)) d
   unfolding next
   obeyed-now s d low =
       let mask = s (row c k decided) in
