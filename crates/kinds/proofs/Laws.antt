@@ -15,7 +15,7 @@ use Rattle.protocol.specs.declared.Event.{Event}
 use Rattle.protocol.specs.Events.{Kind, kinds, kindOf, largest, fits}
 use Rattle.protocol.specs.Numbers.{fieldTests, fields}
 use Rattle.protocol.proofs.Records.{kind-known}
-use Rattle.kinds.specs.Limits.{limitsOf, limitOf}
+use Rattle.kinds.specs.Limits.{limitsOf, limitsAt}
 
 -- the limits of a line of a table of kinds
 line-limits : (lines : List Kind) (i : ℕ) (kind : Kind) → getElem? lines i ≡ some kind → getD (map limitsOf lines) i [] ≡ limitsOf kind
@@ -27,22 +27,22 @@ limits-at : (k : ℕ) (kind : Kind) → kindOf k ≡ some kind → getD (map lim
 limits-at zero kind e = absurd (Option·none-ne-some kind e)
 limits-at (suc i) kind e = let d : suc i - 1 ≡ i = omega arith in rw d (line-limits kinds i kind e)
 
-abbrev pub limited : Counts → Event → List Bool
-limited n e =
-    fits n (limitOf (e .kind) 0) (e .client)
-    ∷ fits n (limitOf (e .kind) 1) (e .attempt)
-    ∷ fits n (limitOf (e .kind) 2) (e .server)
-    ∷ fits n (limitOf (e .kind) 3) (e .database)
-    ∷ fits n (limitOf (e .kind) 4) (e .value)
+-- the five tests, by the limits of the kind
+abbrev pub limited : Counts → List ℕ → Event → List Bool
+limited n limits e =
+    fits n (getD limits 0 0) (e .client)
+    ∷ fits n (getD limits 1 0) (e .attempt)
+    ∷ fits n (getD limits 2 0) (e .server)
+    ∷ fits n (getD limits 3 0) (e .database)
+    ∷ fits n (getD limits 4 0) (e .value)
     ∷ []
 
-pub fields-limited : (n : Counts) (e : Event) → 1 ≤ e .kind → e .kind ≤ 18 → every (fields n e) ≡ every (limited n e)
-unfolding limitOf
-fields-limited n e low high =
+pub fields-limited : (n : Counts) (e : Event) (limits : List ℕ) → limits ≡ limitsAt (e .kind) → 1 ≤ e .kind → e .kind ≤ 18 → every (fields n e) ≡ every (limited n limits e)
+unfolding limitsAt
+fields-limited n e limits is low high =
     let known = kind-known (e .kind) (in-inside 18 (e .kind) low high) in
     ap (λ k. every (fieldTests n k e)) (known .1)
-    ∙ ap (λ limits. every (fits n (getD limits 0 0) (e .client) ∷ fits n (getD limits 1 0) (e .attempt) ∷ fits n (getD limits 2 0) (e .server) ∷ fits n (getD limits 3 0) (e .database) ∷ fits n (getD limits 4 0) (e .value) ∷ []))
-    (sym (limits-at (e .kind) (known .0) (known .1)))
+    ∙ ap (λ l. every (limited n l e)) (sym (is ∙ limits-at (e .kind) (known .0) (known .1)))
 
 -- a field that is used: not 0, and at most its largest value
 pub zero-outside : (most field : ℕ) → field ≡ 0 → inside most field ≡ false

@@ -8,5 +8,5 @@ use Rattle.protocol.specs.Events.{Kind, kinds}
 abbrev pub limitsOf : Kind → List ℕ
 limitsOf kind = kind .client ∷ kind .attempt ∷ kind .server ∷ kind .database ∷ kind .value ∷ []
 
-unfoldable pub limitOf : ℕ → ℕ → ℕ
-limitOf kind field = getD (getD (map limitsOf kinds) (kind - 1) []) field 0
+unfoldable pub limitsAt : ℕ → List ℕ
+limitsAt kind = getD (map limitsOf kinds) (kind - 1) []

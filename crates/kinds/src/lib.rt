@@ -1,10 +1,10 @@
 // The table of kinds, and the one field check that consults it.
 ghost use mathlib.Core.Path.{_≡_};
-ghost use Prim.Native.Nat.{_≤_, _<_};
+ghost use Prim.Native.Nat.{_≤_};
 ghost use Rattle.lists.specs.Tests.{every};
 ghost use Rattle.protocol.specs.Events.{largest, fits};
 ghost use Rattle.protocol.specs.Numbers.{fields};
-ghost use Rattle.kinds.specs.Limits.{limitOf};
+ghost use Rattle.kinds.specs.Limits.{limitsAt};
 use protocol::Counts;
 use protocol::Event;
 
@@ -45,13 +45,13 @@ const KINDS: [[u16; 5]; 18] = [
     [UNUSED, UNUSED, UNUSED, DATABASE, UNUSED],
 ];
 
-// What the field of a kind may hold.
-fn limit(kind: u16, field: usize) -> u16
-    requires { ⌜ (1 ≤ kind) × ((kind ≤ 18) × (field < 5)) ⌝ }
-    ensures { λ r. ⌜ r ≡ limitOf kind field ⌝ }
+// What the five fields of a kind may hold.
+fn limits_of(kind: u16) -> [u16; 5]
+    requires { ⌜ (1 ≤ kind) × (kind ≤ 18) ⌝ }
+    ensures { λ r. ⌜ r ≡ limitsAt kind ⌝ }
 {
     let line = kind as usize - 1;
-    KINDS[line][field]
+    KINDS[line]
 }
 
 // The largest value of a field that may hold this.
@@ -69,12 +69,10 @@ fn largest(counts: Counts, limit: u16) -> u16
     }
 }
 
-// Whether the field of a kind is 0 where it is unused, else from 1 to its largest value.
-fn field_fits(counts: Counts, kind: u16, field: usize, value: u16) -> bool
-    requires { ⌜ (1 ≤ kind) × ((kind ≤ 18) × (field < 5)) ⌝ }
-    ensures { λ r. ⌜ r ≡ fits counts (limitOf kind field) value ⌝ }
+// Whether a field is 0 where it is unused, else from 1 to its largest value.
+fn field_fits(counts: Counts, limit: u16, value: u16) -> bool
+    ensures { λ r. ⌜ r ≡ fits counts limit value ⌝ }
 {
-    let limit = limit(kind, field);
     if limit == UNUSED {
         return value == 0;
     }
@@ -89,18 +87,18 @@ pub fn fields_fit(counts: Counts, event: Event) -> bool
     requires { ⌜ (1 ≤ event .kind) × (event .kind ≤ 18) ⌝ }
     ensures { λ r. ⌜ r ≡ every (fields counts event) ⌝ }
 {
-    let kind = event.kind;
-    if !field_fits(counts, kind, 0, event.client) {
+    let limits = limits_of(event.kind);
+    if !field_fits(counts, limits[0], event.client) {
         return false;
     }
-    if !field_fits(counts, kind, 1, event.attempt) {
+    if !field_fits(counts, limits[1], event.attempt) {
         return false;
     }
-    if !field_fits(counts, kind, 2, event.server) {
+    if !field_fits(counts, limits[2], event.server) {
         return false;
     }
-    if !field_fits(counts, kind, 3, event.database) {
+    if !field_fits(counts, limits[3], event.database) {
         return false;
     }
-    field_fits(counts, kind, 4, event.value)
+    field_fits(counts, limits[4], event.value)
 }

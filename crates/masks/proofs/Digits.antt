@@ -3,13 +3,14 @@ use mathlib.Core.Logic.{_≢_}
 use mathlib.Core.Path.{_≡_, refl, sym, ap, subst, _∙_}
 use Prim.Native.Nat.{ℕ, zero, suc, _+_, _-_, _*_, _/_, _%_, _^_, _≤_, _<_}
 use native.Mathlib.Decide.{decLt}
-use native.Mathlib.Nat.{mod-lt, div-self, div-eq-of-lt, mul-mod-left, pow-suc, one-mul}
+use native.Mathlib.Nat.{suc-mul, mod-lt, div-self, div-eq-of-lt, mul-mod-left, pow-suc, one-mul}
 use native.Mathlib.Numerals.{add-one, one-add}
 use native.Mathlib.Omega.{arith}
+use lib.Arith.{digits-div}
 use lib.Bits.{bitOr, bitAnd, bitXor, or-shr, or-mod, or-zero-r, xor-shr, xor-mod, xor-zero-r, or-add-and, and-high}
 use lib.Count.{ones, ones-step, ones-le}
 use lib.Dec.{lit<}
-use lib.Pow.{pow-pos, pow-lt, pow-add, shr-lt, shl-exact, shl-shr, mod-pow-add}
+use lib.Pow.{suc-ones, pow-pos, pow-lt, pow-add, shr-lt, shl-exact, shl-shr, mod-pow-add}
 
 abbrev pub digit : ℕ → ℕ → ℕ
 digit m i = m / 2 ^ i % 2
@@ -113,3 +114,13 @@ counted-full (suc n) m h e =
 
 pub one-shifted : (k : ℕ) → k < 16 → (1 * 2 ^ k) % 2 ^ 16 ≡ 2 ^ k
 one-shifted k h = shl-exact 1 k 16 (lit< tt) (omega arith) ∙ one-mul (2 ^ k)
+
+-- ---- the low digits of a mask of ones
+
+pub ones-cut : (n k : ℕ) → (2 ^ (n + k) - 1) / 2 ^ k ≡ 2 ^ n - 1
+ones-cut n k =
+    let high = 2 ^ n - 1 in
+    let whole : 2 ^ (n + k) ≡ high * 2 ^ k + 2 ^ k = pow-add 2 n k ∙ (ap (λ (x : ℕ). x * 2 ^ k) (sym (suc-ones n)) ∙ suc-mul high (2 ^ k)) in
+    let split : 2 ^ (n + k) - 1 ≡ high * 2 ^ k + (2 ^ k - 1) = omega (arith, pow-pos k) in
+    let small : 2 ^ k - 1 < 2 ^ k = omega (arith, pow-pos k) in
+    ap (λ (x : ℕ). x / 2 ^ k) split ∙ digits-div high small

@@ -43,12 +43,12 @@ pub fn put(mask: u16, party: u16, on: bool) -> u16
     }
 }
 
-// The mask of parties 1 to n.
+// The mask of parties 1 to n, cut out of that of 15: a compiler turns a comparison with `(1 << n) - 1` into a shift at each cell compared.
 pub fn all(n: u16) -> u16
     requires { ⌜ n ≤ 15 ⌝ }
     ensures { λ r. ⌜ r ≡ all n ⌝ }
 {
-    (1 << n) - 1
+    32767 >> (15 - n)
 }
 
 // Whether each of parties 1 to n is in the mask.

@@ -1,9 +1,9 @@
 -- The listing: a line is malformed exactly where it is not the text of numbers, what stands behind the first refusal is not looked at, and the room suffices.
 use mathlib.Core.Logic.{_↔_}
-use mathlib.Core.Path.{_≡_, refl, sym, _∙_}
+use mathlib.Core.Path.{_≡_, refl}
 use mathlib.Core.List.{List, [], _∷_, _++_}
 use mathlib.Core.Option.{Option, none, some}
-use Prim.Native.Nat.{ℕ, suc, _≤_}
+use Prim.Native.Nat.{ℕ, _≤_}
 use native.Mathlib.Omega.{arith}
 use lib.ListN.{length}
 use Rattle.protocol.specs.declared.Counts.{Counts}
@@ -42,18 +42,20 @@ module _ (text : List ℕ) where
   counts-exactly n rest = (counts-written text n rest, λ is. rw (is .1) (counts-read n rest (is .0)))
 
   pub counts-malformed : (readCounts text ≡ none) ↔ ((n : Counts) (rest : List ℕ) → CountsFit n → text ≡ countsText n ++ rest → ⊥)
-  counts-malformed =
-      (λ e n rest fits is. never-both (readCounts text) (n, rest) e (counts-exactly n rest .1 (fits, is)),
-      λ h. none-when (readCounts text) λ x e. let is = counts-exactly (x .0) (x .1) .0 e in h (x .0) (x .1) (is .0) (is .1))
+  counts-malformed = (
+    λ e n rest fits is. never-both (readCounts text) (n, rest) e (counts-exactly n rest .1 (fits, is)),
+    λ h. none-when (readCounts text) λ x e. let is = counts-exactly (x .0) (x .1) .0 e in h (x .0) (x .1) (is .0) (is .1),
+  )
 
   -- an event line
   pub event-exactly : (e : Record) (rest : List ℕ) → (readEvent text ≡ some (e, rest)) ↔ (EventFits e × (text ≡ eventText e ++ rest))
   event-exactly e rest = (event-written text e rest, λ is. rw (is .1) (event-read e rest (is .0)))
 
   pub event-malformed : (readEvent text ≡ none) ↔ ((e : Record) (rest : List ℕ) → EventFits e → text ≡ eventText e ++ rest → ⊥)
-  event-malformed =
-      (λ f e rest fits is. never-both (readEvent text) (e, rest) f (event-exactly e rest .1 (fits, is)),
-      λ h. none-when (readEvent text) λ x f. let is = event-exactly (x .0) (x .1) .0 f in h (x .0) (x .1) (is .0) (is .1))
+  event-malformed = (
+    λ f e rest fits is. never-both (readEvent text) (e, rest) f (event-exactly e rest .1 (fits, is)),
+    λ h. none-when (readEvent text) λ x f. let is = event-exactly (x .0) (x .1) .0 f in h (x .0) (x .1) (is .0) (is .1),
+  )
 
 -- ---- the lines behind the first, one after another, to the end of the input
 

@@ -1,6 +1,6 @@
 /* The clock of the kit's C library, as it is on x86-64 Linux, for a compiler that comes without headers. */
-#ifndef BENCH_TIME_H
-#define BENCH_TIME_H
+#ifndef TOOLS_TIME_H
+#define TOOLS_TIME_H
 
 struct timespec {
     long tv_sec;

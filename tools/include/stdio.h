@@ -1,6 +1,6 @@
-/* The input and output of the kit's C library that the tests use, for a compiler that comes without headers. */
-#ifndef TESTS_STDIO_H
-#define TESTS_STDIO_H
+/* The input and output of the kit's C library that the C programs here use, for a compiler that comes without headers. */
+#ifndef TOOLS_STDIO_H
+#define TOOLS_STDIO_H
 
 #include <stddef.h>
 

@@ -1,6 +1,6 @@
-/* The general functions of the kit's C library that the tests use, for a compiler that comes without headers. */
-#ifndef TESTS_STDLIB_H
-#define TESTS_STDLIB_H
+/* The general functions of the kit's C library that the C programs here use, for a compiler that comes without headers. */
+#ifndef TOOLS_STDLIB_H
+#define TOOLS_STDLIB_H
 
 #include <stddef.h>
 

@@ -1,6 +1,6 @@
-/* The memory and text functions of the kit's C library that the tests use, for a compiler without headers. */
-#ifndef TESTS_STRING_H
-#define TESTS_STRING_H
+/* The memory and text functions of the kit's C library that the C programs here use, for a compiler without headers. */
+#ifndef TOOLS_STRING_H
+#define TOOLS_STRING_H
 
 #include <stddef.h>
 

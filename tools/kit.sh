@@ -1,5 +1,5 @@
 # Compiles, links and runs C code with the Rattle kit's own tools, for scripts to source: the programs are for x86-64 on every machine.
-# The kit has no C headers, and a machine's own would bind the tests to that machine: tests/include declares what they use.
+# The kit has no C headers, and a machine's own would bind the programs to that machine: tools/include declares what they use.
 
 repository=$(cd "$(dirname "${BASH_SOURCE[0]}")/.." && pwd -P)
 kit=${RATTLE_HOME:-$(dirname "$(dirname "$(rt doc)")")}
@@ -13,7 +13,7 @@ compile() {
     shift 2
     mkdir -p "$(dirname "$object")"
     "$kit_tools/bin/clang" --target=$kit_target -std=c11 -O2 -fPIC -Wall -Wextra -Wconversion -Wshadow -pedantic \
-        -nostdinc -isystem "$repository/tests/include" "$@" -c "$source" -o "$object"
+        -nostdinc -isystem "$repository/tools/include" "$@" -c "$source" -o "$object"
 }
 
 # link OUT OBJECT...: what the linker says is shown only if it fails

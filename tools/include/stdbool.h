@@ -1,6 +1,6 @@
 /* The C11 names of the truth values, for a compiler that comes without headers. */
-#ifndef TESTS_STDBOOL_H
-#define TESTS_STDBOOL_H
+#ifndef TOOLS_STDBOOL_H
+#define TOOLS_STDBOOL_H
 
 #define bool _Bool
 #define true 1
