@@ -1,11 +1,22 @@
 # Compiles, links and runs C code with the Rattle kit's own tools, for scripts to source: the programs are for x86-64 on every machine.
 # The kit has no C headers, and a machine's own would bind the programs to that machine: tools/include declares what they use.
 
+command -v rt >/dev/null || {
+    echo "there is no rt on the path" >&2
+    exit 2
+}
 repository=$(cd "$(dirname "${BASH_SOURCE[0]}")/.." && pwd -P)
 kit=${RATTLE_HOME:-$(dirname "$(dirname "$(rt doc)")")}
 kit_here=$kit/on/$(uname -m)
 kit_tools=$kit_here/toolchain
 kit_target=x86_64-unknown-linux-gnu
+
+# The archive of the proved library; have_archive makes it where there is none, or where a crate changed since.
+archive=$repository/target/staticlib/librunner.a
+have_archive() {
+    if [ -f "$archive" ] && [ -z "$(find "$repository/crates" "$repository/crates.txt" -newer "$archive" -print -quit)" ]; then return; fi
+    (cd "$repository" && rt staticlib runner) >&2
+}
 
 # compile FILE.c OBJECT [FLAG...]
 compile() {

@@ -1,4 +1,4 @@
-# The cases that are stated line by line: the paper's examples, each rule with its limits, and runs that once looked right and were not.
+# The cases that are stated line by line: the paper's examples, each rule with its limits, and runs on which an error that looks right would show.
 # Sourced by make-cases; setup 1 2 1 2 where nothing else is said.
 
 issue='1 1 0 0 0 700'

@@ -1,5 +1,6 @@
 -- A line is read as numbers exactly where it is their text.
-use mathlib.Core.Path.{_≡_, refl, subst}
+use mathlib.Core.Logic.{_↔_}
+use mathlib.Core.Path.{_≡_, refl, sym, subst, _∙_}
 use mathlib.Core.List.{List, [], _∷_, _++_, append-assoc}
 use mathlib.Core.Option.{Option, none, some, Option·none-ne-some, Option·some-injective}
 use Prim.Native.Nat.{ℕ, _+_, _≤_}
@@ -10,7 +11,7 @@ use Rattle.protocol.specs.declared.Event.{Event}
 use Rattle.text.specs.Writing.{space, newline, decimal, line}
 use Rattle.text.specs.Reading.{most, readNumber}
 use Rattle.text.proofs.Inverse.{written-read, line-read, line-end, line-long}
-use Rattle.lines.specs.Lines.{andThen, readCounts, readEvent, countsText, eventText}
+use Rattle.lines.specs.Lines.{andThen, readCounts, readEvent, countsText, CountsFit, eventText, EventFits}
 
 -- ---- one number of a line
 
@@ -22,29 +23,26 @@ module _ {X P : Type 0} (x : X) where
   made (some found) next e show = show (found .0) (found .1) refl e
 
   module _ (text : List ℕ) (next : ℕ → List ℕ → Option X) where
-    taken : (end : ℕ) → 1 ≤ end → andThen (readNumber end text) next ≡ some x
+    taken : (end : ℕ) → andThen (readNumber end text) next ≡ some x
         → ((n : ℕ) (rest : List ℕ) → n ≤ most → text ≡ decimal n ++ (end ∷ rest) → next n rest ≡ some x → P) → P
-    taken end positive e show =
+    taken end e show =
         made (readNumber end text) next e (λ n rest found onward.
-        let (fits, written) = written-read end text n rest positive found in
+        let (fits, written) = written-read end text n rest found in
         show n rest fits written onward)
 
     spaced : andThen (readNumber space text) next ≡ some x
         → ((n : ℕ) (rest : List ℕ) → n ≤ most → text ≡ decimal n ++ (space ∷ rest) → next n rest ≡ some x → P) → P
-    spaced = taken space (omega arith)
+    spaced = taken space
 
     ended : andThen (readNumber newline text) next ≡ some x
         → ((n : ℕ) (rest : List ℕ) → n ≤ most → text ≡ decimal n ++ (newline ∷ rest) → next n rest ≡ some x → P) → P
-    ended = taken newline (omega arith)
+    ended = taken newline
+
+none-when : {X : Type 0} (read : Option X) → ((x : X) → read ≡ some x → ⊥) → read ≡ none
+none-when none never = refl
+none-when (some x) never = absurd (never x refl)
 
 -- ---- a first line
-
--- each count is a number of a line
-pub record CountsFit (n : Counts) : Type 0 where
-  pub clients : n .clients ≤ most
-  pub servers : n .servers ≤ most
-  pub databases : n .databases ≤ most
-  pub attempts : n .attempts ≤ most
 
 pub counts-read : (n : Counts) (rest : List ℕ) → CountsFit n → readCounts (countsText n ++ rest) ≡ some (n, rest)
 unfolding readCounts
@@ -70,21 +68,18 @@ counts-written text n rest read =
       rw (clients-text, servers-text, databases-text, attempts-text) (simp append-assoc),
     )))))
 
+pub counts-malformed : (text : List ℕ) → (readCounts text ≡ none) ↔ ((n : Counts) (rest : List ℕ) → CountsFit n → text ≡ countsText n ++ rest → ⊥)
+counts-malformed text = (
+  λ e n rest fits is. Option·none-ne-some (n, rest) (sym e ∙ rw is (counts-read n rest fits)),
+  λ never. none-when (readCounts text) λ x e. let is = counts-written text (x .0) (x .1) e in never (x .0) (x .1) (is .0) (is .1),
+)
+
 pub counts-shorter : (text : List ℕ) (n : Counts) (rest : List ℕ) → readCounts text ≡ some (n, rest) → length rest + 8 ≤ length text
 counts-shorter text n rest read =
     rw (counts-written text n rest read .1)
     (simp length-append (omega (arith, line-long (n .clients ∷ n .servers ∷ n .databases ∷ n .attempts ∷ []))))
 
 -- ---- an event line
-
--- each field is a number of a line
-pub record EventFits (e : Event) : Type 0 where
-  pub kind : e .kind ≤ most
-  pub client : e .client ≤ most
-  pub attempt : e .attempt ≤ most
-  pub server : e .server ≤ most
-  pub database : e .database ≤ most
-  pub value : e .value ≤ most
 
 pub event-read : (e : Event) (rest : List ℕ) → EventFits e → readEvent (eventText e ++ rest) ≡ some (e, rest)
 unfolding readEvent
@@ -120,6 +115,12 @@ event-written text e rest read =
       },
       rw (kind-text, client-text, attempt-text, server-text, database-text, value-text) (simp append-assoc),
     )))))))
+
+pub event-malformed : (text : List ℕ) → (readEvent text ≡ none) ↔ ((e : Event) (rest : List ℕ) → EventFits e → text ≡ eventText e ++ rest → ⊥)
+event-malformed text = (
+  λ f e rest fits is. Option·none-ne-some (e, rest) (sym f ∙ rw is (event-read e rest fits)),
+  λ never. none-when (readEvent text) λ x f. let is = event-written text (x .0) (x .1) f in never (x .0) (x .1) (is .0) (is .1),
+)
 
 pub event-shorter : (text : List ℕ) (e : Event) (rest : List ℕ) → readEvent text ≡ some (e, rest) → length rest + 12 ≤ length text
 event-shorter text e rest read =

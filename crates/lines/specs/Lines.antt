@@ -1,11 +1,11 @@
 -- The first line and an event line, read, and the lines of clients and results, as text.
 use mathlib.Core.List.{List, [], _∷_}
 use mathlib.Core.Option.{Option, none, some}
-use Prim.Native.Nat.{ℕ}
+use Prim.Native.Nat.{ℕ, _≤_}
 use Rattle.protocol.specs.declared.Counts.{Counts}
 use Rattle.protocol.specs.declared.Event.{Event}
 use Rattle.text.specs.Writing.{space, newline, line}
-use Rattle.text.specs.Reading.{readNumber}
+use Rattle.text.specs.Reading.{most, readNumber}
 
 -- ---- reading: what a line says, and what stands behind it
 
@@ -36,19 +36,40 @@ readEvent text =
 
 -- ---- writing
 
+-- the letters C and R
+abbrev pub clientLetter : ℕ
+clientLetter = 67
+
+abbrev pub resultLetter : ℕ
+resultLetter = 82
+
 -- C client phase attempt value
 unfoldable pub clientText : ℕ → ℕ → ℕ → ℕ → List ℕ
-clientText client phase attempt delivered = 67 ∷ space ∷ line (client ∷ phase ∷ attempt ∷ delivered ∷ [])
+clientText client phase attempt delivered = clientLetter ∷ space ∷ line (client ∷ phase ∷ attempt ∷ delivered ∷ [])
 
 -- R client attempt owner outcome value yes-votes commits
 unfoldable pub resultText : ℕ → ℕ → ℕ → ℕ → ℕ → ℕ → ℕ → List ℕ
 resultText client attempt owner outcome value votes commits =
-    82 ∷ space ∷ line (client ∷ attempt ∷ owner ∷ outcome ∷ value ∷ votes ∷ commits ∷ [])
+    resultLetter ∷ space ∷ line (client ∷ attempt ∷ owner ∷ outcome ∷ value ∷ votes ∷ commits ∷ [])
 
--- ---- the text that a first line and an event line are
+-- ---- the text that a first line and an event line are, and that their numbers are those of a line
 
 abbrev pub countsText : Counts → List ℕ
 countsText n = line (n .clients ∷ n .servers ∷ n .databases ∷ n .attempts ∷ [])
 
+pub record CountsFit (n : Counts) : Type 0 where
+  pub clients : n .clients ≤ most
+  pub servers : n .servers ≤ most
+  pub databases : n .databases ≤ most
+  pub attempts : n .attempts ≤ most
+
 abbrev pub eventText : Event → List ℕ
 eventText e = line (e .kind ∷ e .client ∷ e .attempt ∷ e .server ∷ e .database ∷ e .value ∷ [])
+
+pub record EventFits (e : Event) : Type 0 where
+  pub kind : e .kind ≤ most
+  pub client : e .client ≤ most
+  pub attempt : e .attempt ≤ most
+  pub server : e .server ≤ most
+  pub database : e .database ≤ most
+  pub value : e .value ≤ most

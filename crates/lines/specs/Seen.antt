@@ -14,14 +14,6 @@ abbrev pub countsSeen : List ℕ → FirstLine → Option (Counts × List ℕ)
 countsSeen text (first.Found counts behind) = some (counts, drop behind text)
 countsSeen text first.Malformed = none
 
-abbrev pub countsEnd : FirstLine → ℕ
-countsEnd (first.Found counts behind) = behind
-countsEnd first.Malformed = 0
-
 abbrev pub eventSeen : List ℕ → EventLine → Option (Event × List ℕ)
 eventSeen text (event.Found record′ behind) = some (record′, drop behind text)
 eventSeen text event.Malformed = none
-
-abbrev pub eventEnd : EventLine → ℕ
-eventEnd (event.Found record′ behind) = behind
-eventEnd event.Malformed = 0

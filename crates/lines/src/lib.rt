@@ -1,11 +1,10 @@
 // The lines of the listing program: the first line and the event lines read, the lines of its output written.
 ghost use mathlib.Core.Path.{_≡_};
 ghost use mathlib.Core.List.{[], _∷_};
-ghost use Prim.Native.Nat.{_≤_};
-ghost use lib.ListN.{length, drop};
+ghost use lib.ListN.{drop};
 ghost use Rattle.text.specs.Writing.{Page, puts, line};
 ghost use Rattle.lines.specs.Lines.{readCounts, readEvent, clientText, resultText};
-ghost use Rattle.lines.specs.Seen.{countsSeen, countsEnd, eventSeen, eventEnd};
+ghost use Rattle.lines.specs.Seen.{countsSeen, eventSeen};
 use protocol::Counts;
 use protocol::Event;
 use text::NEWLINE;
@@ -33,7 +32,6 @@ pub enum EventLine {
 
 pub fn read_counts(input: &[u8]) -> FirstLine
     ensures { λ r. ⌜ countsSeen (now (input .entry)) r ≡ readCounts (now (input .entry)) ⌝ }
-    ensures { λ r. ⌜ countsEnd r ≤ length (now (input .entry)) ⌝ }
 {
     let Number::Found(clients, behind_clients) = text::read_number(input, 0, SPACE) else {
         return FirstLine::Malformed;
@@ -60,7 +58,6 @@ pub fn read_counts(input: &[u8]) -> FirstLine
 
 pub fn read_event(input: &[u8], start: usize) -> EventLine
     ensures { λ r. ⌜ eventSeen (now (input .entry)) r ≡ readEvent (drop start (now (input .entry))) ⌝ }
-    ensures { λ r. ⌜ eventEnd r ≤ length (now (input .entry)) ⌝ }
 {
     let Number::Found(kind, behind_kind) = text::read_number(input, start, SPACE) else {
         return EventLine::Malformed;
@@ -104,7 +101,7 @@ pub fn put_place(out: &mut [u8], at: usize, place: u16, number: u16) -> usize
     text::put_number(out, behind, number, NEWLINE)
 }
 
-// A line of four numbers.
+// The last four numbers of a line.
 fn put_four(out: &mut [u8], at: usize, first: u16, second: u16, third: u16, fourth: u16) -> usize
     ensures { λ r. ⌜ record { cells = now (out .exit); at = r } ≡ puts (record { cells = now (out .entry); at = at }) (line (first ∷ second ∷ third ∷ fourth ∷ [])) ⌝ }
 {

@@ -1,18 +1,16 @@
 -- The lines of clients and results: the cells that they show, and one behind another.
-use mathlib.Core.Path.{_≡_, refl, sym, ap, _∙_}
+use mathlib.Core.Path.{_≡_, refl, ap}
 use mathlib.Core.List.{List, _∷_}
 use Prim.Native.Nat.{ℕ, suc, _+_, _-_, _≤_, _<_}
-use native.Mathlib.Nat.{add-sub-cancel-left}
 use native.Mathlib.Omega.{arith}
 use lib.ListN.{length, getD, take, drop}
-use Rattle.lists.specs.Parts.{part}
 use Rattle.lists.proofs.Choice.{in-inside}
 use Rattle.protocol.specs.declared.Counts.{Counts}
 use Rattle.protocol.specs.Agreement.{Id}
 use Rattle.protocol.specs.Cells.{rowOf, clientUp}
 use Rattle.table.specs.Layout.{rowLength, rowStart, place, tableLength}
 use Rattle.table.specs.Table.{view, rowView}
-use Rattle.table.proofs.Lent.{row-view}
+use Rattle.table.proofs.Lent.{lent-view}
 use Rattle.layout.proofs.Laws.{phase-cell, attempt-cell, delivered-cell}
 use Rattle.text.specs.Writing.{Page, puts}
 use Rattle.text.proofs.Pages.{follows}
@@ -31,9 +29,8 @@ pub lent-line : (n : Counts) (t : List ℕ) (c k : ℕ) → length t ≡ tableLe
     → (start width : ℕ) → start ≡ rowStart n c k → width ≡ rowLength n
     → resultLine c k (rowView n (take (start + width - start) (drop start t))) ≡ resultLine c k (rowOf (view n t) c k)
 lent-line n t c k long cId kId start width s w =
-    ap (λ m. resultLine c k (rowView n (part start m t))) (add-sub-cancel-left start width ∙ w)
-    ∙ ap (λ a. resultLine c k (rowView n (part a (rowLength n) t))) s
-    ∙ ap (resultLine c k) (sym (row-view n t c k long (in-inside (n .clients) c (cId .0) (cId .1)) (in-inside (n .attempts) k (kId .0) (kId .1))))
+    ap (resultLine c k)
+    (lent-view n t c k long (in-inside (n .clients) c (cId .0) (cId .1)) (in-inside (n .attempts) k (kId .0) (kId .1)) start width s w)
 
 -- ---- loops: ids below `id` are written
 

@@ -11,7 +11,6 @@ use Rattle.lists.specs.Tests.{every}
 use Rattle.lists.proofs.Choice.{by-cond}
 use Rattle.masks.specs.Mask.{count}
 use Rattle.protocol.specs.declared.Counts.{Counts}
-use Rattle.protocol.specs.declared.Event.{Event}
 use Rattle.protocol.specs.Cells.{State, Row, rowOf, phase, attempt, delivered, owner, outcome, value, votedYes, committed}
 use Rattle.protocol.specs.Numbers.{countTests}
 use Rattle.table.specs.Table.{view, freshTable}
@@ -55,10 +54,6 @@ place-short place number small =
     let digit = ap length (written-one number (omega arith)) in
     simp length-append (omega (arith, decimal-short place))
 
-number-short : (cells : List ℕ) (e : Event) → applied cells e .number ≤ 7
-unfolding applied
-number-short cells e = at-most-seven cells e
-
 kept-short : (kept : Bool) (text : List ℕ) → length (cond kept text []) ≤ length text
 kept-short true text = omega arith
 kept-short false text = omega arith
@@ -69,7 +64,7 @@ played-short place cells ended = omega arith
 played-short place cells malformed = place-short place 8 (omega arith)
 played-short place cells (event e more) =
     let done = applied cells e in
-    let answer = place-short place (done .number) (omega (arith, number-short cells e)) in
+    let answer = place-short place (done .number) (omega (arith, at-most-seven cells e)) in
     let further = played-short (suc place) (done .cells) more in
     simp length-append (omega (arith, kept-short (eqb (done .number) 0) (played (suc place) (done .cells) more .text)))
 

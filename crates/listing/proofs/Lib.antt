@@ -3,3 +3,4 @@ pub mod Script
 pub mod Playing
 pub mod Whole
 pub mod Length
+pub mod Answered

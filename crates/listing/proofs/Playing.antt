@@ -20,12 +20,12 @@ use Rattle.listing.proofs.Script.{script-end, script-malformed, script-
 -- ---- one line
 
 module _ (place : ℕ) (cells : List ℕ) (e : Event) (more : Script) where
-  accepted-text : applied cells e .number ≡ 0
+  pub accepted-text : applied cells e .number ≡ 0
       → played place cells (event e more) .text ≡ line (place ∷ applied cells e .number ∷ []) ++ played (suc place) (applied cells e .cells) more .text
   unfolding played
   accepted-text h = rw h
 
-  accepted-cells : applied cells e .number ≡ 0 → played place cells (event e more) .cells ≡ played (suc place) (applied cells e .cells) more .cells
+  pub accepted-cells : applied cells e .number ≡ 0 → played place cells (event e more) .cells ≡ played (suc place) (applied cells e .cells) more .cells
   unfolding played
   accepted-cells h = rw h
 
@@ -40,9 +40,8 @@ module _ (place : ℕ) (cells : List ℕ) (e : Event) (more : Script) where
 -- ---- the loop over the lines
 
 -- a line has at least twelve bytes
-pub further : (input : List ℕ) (next behind : ℕ) (e : Event) → readEvent (drop next input) ≡ some (e, drop behind input) → next < length input → behind ≤ length input
-    → next + 12 ≤ behind
-further input next behind e reads h inside =
+pub further : (input : List ℕ) (next behind : ℕ) (e : Event) → readEvent (drop next input) ≡ some (e, drop behind input) → next < length input → next + 12 ≤ behind
+further input next behind e reads h =
     let shorter = rw (length-drop behind input, length-drop next input) at (event-shorter (drop next input) e (drop behind input) reads) in
     omega arith
 
@@ -58,12 +57,11 @@ module _ (input : List ℕ) (start : ℕ) (first : Page) (cells₀ : List ℕ) w
   pub record Playing (page : Page) (cells : List ℕ) (place next : ℕ) : Type 0 where
     pub low : 1 ≤ place
     pub few : 12 * place ≤ next + 12
-    pub high : next ≤ length input
     pub text : puts page (played place cells (script (drop next input)) .text) ≡ puts first (whole .text)
     pub left : played place cells (script (drop next input)) .cells ≡ whole .cells
 
-  pub begins : start ≤ length input → Playing first cells₀ 1 start
-  begins h = record { low = omega arith; few = omega arith; high = h; text = refl; left = refl }
+  pub begins : Playing first cells₀ 1 start
+  begins = record { low = omega arith; few = omega arith; text = refl; left = refl }
 
   module _ (page : Page) (cells : List ℕ) (place next : ℕ) (so-far : Playing page cells place next) where
     pub at-end : length input ≤ next → Ends page cells
@@ -90,13 +88,12 @@ module _ (input : List ℕ) (start : ℕ) (first : Page) (cells₀ : List ℕ) w
           leaves ∙ (sym (refused-cells place cells e (script (drop behind input)) h) ∙ (rw follows-event at (so-far .left))),
         )
 
-        pub at-accepted : next < length input → behind ≤ length input → applied cells e .number ≡ 0 → Playing page′ cells′ (place + 1) behind
-        at-accepted h inside ok =
+        pub at-accepted : next < length input → applied cells e .number ≡ 0 → Playing page′ cells′ (place + 1) behind
+        at-accepted h ok =
             let more = script (drop behind input) in
             record {
               low = omega arith;
-              few = omega (arith, further input next behind e reads h inside);
-              high = inside;
+              few = omega (arith, further input next behind e reads h);
               text = rw (add-one, leaves, writes)
                   (sym (puts-append page (line (place ∷ applied cells e .number ∷ [])) (played (suc place) (applied cells e .cells) more .text))
                   ∙ (ap (puts page) (sym (accepted-text place cells e more ok)) ∙ (rw follows-event at (so-far .text))));

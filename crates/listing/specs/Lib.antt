@@ -1,2 +1,3 @@
 pub mod Script
 pub mod Listing
+pub mod Answered

@@ -26,6 +26,7 @@ pub record Played : Type 0 where
   pub text : List ℕ
   pub cells : List ℕ
 
+-- from a place on; an input has fewer than 5,500 lines, so a place has at most four digits
 unfoldable pub played : ℕ → List ℕ → Script → Played
 played place cells ended = record { text = []; cells = cells }
 played place cells malformed = record { text = line (place ∷ 8 ∷ []); cells = cells }

@@ -21,6 +21,6 @@ scriptWithin zero text = ended
 scriptWithin (suc lines) [] = ended
 scriptWithin (suc lines) (b ∷ text) = lineThen (readEvent (b ∷ text)) (scriptWithin lines)
 
--- all lines: there are fewer than bytes
+-- all lines: there are at most as many as bytes
 unfoldable pub script : List ℕ → Script
 script text = scriptWithin (length text) text

@@ -3,15 +3,16 @@ ghost use mathlib.Core.Path.{_≡_};
 ghost use mathlib.Core.List.{[], _∷_};
 ghost use Prim.Native.Nat.{_≤_, min};
 ghost use lib.ListN.{length, drop};
+ghost use Rattle.protocol.specs.declared.Counts.{Counts as Setup};
 ghost use Rattle.protocol.specs.Agreement.{Id};
 ghost use Rattle.protocol.specs.Cells.{rowOf};
-ghost use Rattle.table.specs.Layout.{rowLength, tableLength};
+ghost use Rattle.table.specs.Layout.{tableLength};
 ghost use Rattle.table.specs.Table.{view, rowView, freshTable};
 ghost use Rattle.table.specs.Jobs.{applied};
 ghost use Rattle.layout.specs.Ranged.{Ranged};
 ghost use Rattle.text.specs.Writing.{Page, puts, line, over};
 ghost use Rattle.listing.specs.Script.{script};
-ghost use Rattle.listing.specs.Listing.{played, clientLine, resultLine, forEach, listed, listing};
+ghost use Rattle.listing.specs.Listing.{longest, played, clientLine, resultLine, forEach, listed, listing};
 use gates::COMMITTED;
 use gates::OUTCOME;
 use gates::OWNER;
@@ -28,7 +29,7 @@ use protocol::Event;
 // The most bytes of an input.
 const LONGEST: usize = 65536;
 
-// Two of the numbers that the program gives by itself.
+// The numbers that the program gives by itself.
 const WRONG_SIZE: u16 = 1;
 
 const MALFORMED: u16 = 8;
@@ -37,18 +38,17 @@ const MALFORMED: u16 = 8;
 
 fn client_line(out: &mut [u8], at: usize, table: &[u16], counts: Counts, client: u16) -> usize
     requires { ⌜ length (now table) ≡ tableLength counts ⌝ }
-    requires { ⌜ Ranged counts ⌝ }
     requires { ⌜ Id (counts .clients) client ⌝ }
     ensures { λ r. ⌜ record { cells = now (out .exit); at = r } ≡ puts (record { cells = now (out .entry); at = at }) (clientLine (view counts (now (table .entry))) client) ⌝ }
 {
-    let up = layout::client_at(counts, client);
+    let first_cell = layout::client_at(counts, client);
     lines::put_client(
         out,
         at,
         client,
-        table[up + PHASE],
-        table[up + ATTEMPT],
-        table[up + DELIVERED],
+        table[first_cell + PHASE],
+        table[first_cell + ATTEMPT],
+        table[first_cell + DELIVERED],
     )
 }
 
@@ -67,16 +67,9 @@ fn client_lines(out: &mut [u8], start: usize, table: &[u16], counts: Counts) -> 
 }
 
 // A row, lent by itself; without an owner it has no line.
-fn row_line(
-    out: &mut [u8],
-    at: usize,
-    row: &[u16],
-    counts: Counts,
-    client: u16,
-    attempt: u16,
-) -> usize
-    requires { ⌜ length (now row) ≡ rowLength counts ⌝ }
-    ensures { λ r. ⌜ record { cells = now (out .exit); at = r } ≡ puts (record { cells = now (out .entry); at = at }) (resultLine client attempt (rowView counts (now (row .entry)))) ⌝ }
+fn row_line(out: &mut [u8], at: usize, row: &[u16], client: u16, attempt: u16) -> usize
+    requires { ⌜ 13 ≤ length (now row) ⌝ }
+    ensures { λ r. ⌜ ((n : Setup) → record { cells = now (out .exit); at = r } ≡ puts (record { cells = now (out .entry); at = at }) (resultLine client attempt (rowView n (now (row .entry))))) ⌝ }
 {
     if row[OWNER] == 0 {
         return at;
@@ -91,8 +84,8 @@ fn row_line(
         row[OWNER],
         row[OUTCOME],
         row[VALUE],
-        votes as u16,
-        commits as u16,
+        votes,
+        commits,
     )
 }
 
@@ -112,7 +105,7 @@ fn result_line(
 {
     let start = layout::row_start(counts, client, attempt);
     let end = start + layout::row_length(counts);
-    row_line(out, at, &table[start..end], counts, client, attempt)
+    row_line(out, at, &table[start..end], client, attempt)
 }
 
 // Those of one client.
@@ -169,8 +162,7 @@ fn play_event(out: &mut [u8], at: usize, table: &mut [u16], place: u16, event: E
 
 // The events of the lines from a place on, to the first refusal.
 fn play(out: &mut [u8], table: &mut [u16], input: &[u8], start: usize) -> usize
-    requires { ⌜ start ≤ length (now input) ⌝ }
-    requires { ⌜ length (now input) ≤ 65536 ⌝ }
+    requires { ⌜ length (now input) ≤ longest ⌝ }
     ensures { λ r. ⌜ record { cells = now (out .exit); at = r } ≡ puts (record { cells = now (out .entry); at = 0 }) (played 1 (now (table .entry)) (script (drop start (now (input .entry)))) .text) ⌝ }
     ensures { λ _. ⌜ now (table .exit) ≡ played 1 (now (table .entry)) (script (drop start (now (input .entry)))) .cells ⌝ }
 {
@@ -212,17 +204,17 @@ fn refuse(out: &mut [u8], number: u16) -> usize
 fn list_on(out: &mut [u8], table: &mut [u16], counts: Counts, input: &[u8], start: usize) -> usize
     requires { ⌜ length (now table) ≡ tableLength counts ⌝ }
     requires { ⌜ Ranged counts ⌝ }
-    requires { ⌜ start ≤ length (now input) ⌝ }
-    requires { ⌜ length (now input) ≤ 65536 ⌝ }
+    requires { ⌜ length (now input) ≤ longest ⌝ }
     ensures { λ r. ⌜ record { cells = now (out .exit); at = r } ≡ puts (record { cells = now (out .entry); at = 0 }) (listed counts (played 1 (freshTable counts) (script (drop start (now (input .entry)))))) ⌝ }
 {
+    // the length and the counts are right, so the answer is known
     engine::set_up(table, counts);
     let behind_events = play(out, table, input, start);
     let behind_clients = client_lines(out, behind_events, &table[..], counts);
     result_lines(out, behind_clients, &table[..], counts)
 }
 
-// Writes the listing of an input to the start of the lent room, as much as it has room for, and answers how many bytes that are.
+// Writes the listing of an input to the start of the lent room, as much as it has room for, and answers how many bytes that is.
 pub fn list(input: &[u8], out: &mut [u8]) -> usize
     ensures { λ r. ⌜ r ≡ min (length (listing (now (input .entry)))) (length (now (out .entry))) ⌝ }
     ensures { λ _. ⌜ now (out .exit) ≡ over (now (out .entry)) (listing (now (input .entry))) ⌝ }

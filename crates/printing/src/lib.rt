@@ -2,10 +2,11 @@
 ghost use mathlib.Core.Path.{_≡_};
 ghost use Prim.Native.Nat.{_≤_};
 ghost use lib.ListN.{length};
+ghost use Rattle.printing.specs.Got.{gotBytes};
 use libc::STDOUT_FILENO;
 
 // Room for the longest input and one byte more, by which one that is too long is told.
-fn room() -> [u8; 65537]
+fn blank() -> [u8; 65537]
     ensures { λ r. ⌜ 65537 ≡ length r ⌝ }
 {
     [0; 65537]
@@ -20,23 +21,46 @@ fn write_listing(input: &[u8]) {
     }
 }
 
-// Reads on behind the first bytes, to the end of the input or of the room, and answers how many bytes there are then.
-fn read_rest(descriptor: i32, input: &mut [u8], first: usize) -> usize
-    requires { ⌜ first ≤ length (now input) ⌝ }
-    ensures { λ r. ⌜ r ≤ length (now (input .entry)) ⌝ }
+// How many bytes were read, or that a read failed.
+pub enum Got {
+    Bytes(usize),
+    Nothing,
+}
+
+// One read into the room.
+fn read_some(descriptor: i32, room: &mut [u8]) -> Got
+    ensures { λ r. ⌜ gotBytes r ≤ length (now (room .entry)) ⌝ }
 {
-    first + io::read_full(descriptor, &mut input[first..])
+    let got = libc::read(descriptor, room);
+    if got < 0 {
+        return Got::Nothing;
+    }
+    Got::Bytes(io::count(got, room))
+}
+
+// Reads to the end of the input or of the room.
+fn read_input(descriptor: i32, room: &mut [u8]) -> Got
+    ensures { λ r. ⌜ gotBytes r ≤ length (now (room .entry)) ⌝ }
+{
+    let mut filled = 0;
+    while filled < room.len() {
+        let Got::Bytes(more) = read_some(descriptor, &mut room[filled..]) else {
+            return Got::Nothing;
+        };
+        if more == 0 {
+            return Got::Bytes(filled);
+        }
+        filled += more;
+    }
+    Got::Bytes(filled)
 }
 
 // Prints the listing of what the descriptor holds, or says why it cannot be read; `name` is what the message calls it.
 pub fn print_listing(descriptor: i32, name: &[u8]) {
-    let mut input = room();
-    let got = libc::read(descriptor, &mut input);
-    if got < 0 {
+    let mut input = blank();
+    let Got::Bytes(length) = read_input(descriptor, &mut input) else {
         os::fail(name);
         return;
-    }
-    let first = io::count(got, &input);
-    let length = read_rest(descriptor, &mut input, first);
+    };
     write_listing(&input[..length]);
 }

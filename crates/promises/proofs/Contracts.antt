@@ -3,6 +3,12 @@ use Rattle.engine.proofs.set_up.Statement as set-up
 use Rattle.engine.proofs.set_up.Met as set-up-met
 use Rattle.engine.proofs.apply.Statement as apply
 use Rattle.engine.proofs.apply.Met as apply-met
+use Rattle.engine.proofs.number.Statement as number
+use Rattle.engine.proofs.number.Met as number-met
+use Rattle.engine.proofs.check.Statement as check
+use Rattle.engine.proofs.check.Met as check-met
+use Rattle.engine.proofs.step.Statement as step
+use Rattle.engine.proofs.step.Met as step-met
 use Rattle.runner.proofs.vrolkant_table_length.Statement as vrolkant-table-length
 use Rattle.runner.proofs.vrolkant_table_length.Met as vrolkant-table-length-met
 use Rattle.runner.proofs.vrolkant_set_up.Statement as vrolkant-set-up
@@ -21,6 +27,16 @@ module _ {M : Type 1} where
 
   pub apply-meets : apply.statement M
   apply-meets = apply-met.met
+
+  -- the same with numbers for answers, and 1 and 2 asked of a table alone: over `answerNumber`, `tableNumber` and `applied`
+  pub number-meets : number.statement M
+  number-meets = number-met.met
+
+  pub check-meets : check.statement M
+  check-meets = check-met.met
+
+  pub step-meets : step.statement M
+  step-meets = step-met.met
 
   -- crates/runner/src/lib.rt, the jobs as C and Rust call them: over `lengthFor` of runner's specs/Asked, `setUp`, `applied`, and for the list job `ran`
   pub vrolkant-table-length-meets : vrolkant-table-length.statement M

@@ -63,7 +63,6 @@ module _ (t : List ℕ) (r : Record) where
   accepted-when = exactly.accepted-when t r
 
   pub at-most-seven : applied t r .number ≤ 7
-  unfolding applied
   at-most-seven = exactly.at-most-seven t r
 
   -- a refused event leaves the table untouched, and an accepted one keeps a sound table sound (what it writes is in Demand2)

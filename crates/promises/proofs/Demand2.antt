@@ -2,13 +2,10 @@
 use mathlib.Core.Path.{_≡_, refl, sym, ap₂, subst}
 use mathlib.Core.List.{List, [], _∷_, map, head-eq-of-cons-eq, tail-eq-of-cons-eq}
 use Prim.Native.Nat.{ℕ}
-use lib.Dec.{T}
-use Rattle.lists.specs.Tests.{every}
 use Rattle.protocol.specs.declared.Counts.{Counts}
 use Rattle.protocol.specs.declared.Event.{Event as Record}
 use Rattle.protocol.specs.Events.{Event, recordOf}
 use Rattle.protocol.specs.Rules.{rule}
-use Rattle.protocol.specs.Numbers.{countTests}
 use Rattle.protocol.specs.Machine.{next}
 use Rattle.protocol.specs.Agreement.{Agreement}
 use Rattle.protocol.proofs.Records.{one-event}
@@ -37,8 +34,8 @@ one-reading (e ∷ events) (f ∷ others) same =
     ap₂ {C = List Event} (λ x xs. x ∷ xs) (one-event e f (head-eq-of-cons-eq same)) (one-reading events others (tail-eq-of-cons-eq same))
 
 -- for every list of records accepted whole from a fresh table, over the events that the records stand for and the state of the table after it
-pub demand-2 : (n : Counts) → T (every (countTests n)) → (list : List Record) → Accepted (freshTable n) list
+pub demand-2 : (n : Counts) (list : List Record) → Accepted (freshTable n) list
     → (events : List Event) × (map recordOf events ≡ list) × Agreement n events (view n (after (freshTable n) list))
-demand-2 n counts list accepted =
+demand-2 n list accepted =
     let (events, stands) = from-fresh n list accepted in
     (events, stands .same, subst (Agreement n events) (sym (stands .leads)) (agreement n events (stands .accepts)))

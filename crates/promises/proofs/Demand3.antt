@@ -5,13 +5,12 @@ use mathlib.Core.Bool.{not}
 use mathlib.Core.List.{List, _++_, map, map-append}
 use Prim.Native.Nat.{ℕ}
 use lib.Dec.{T}
-use Rattle.lists.specs.Tests.{every}
 use Rattle.masks.specs.Mask.{has}
 use Rattle.protocol.specs.declared.Counts.{Counts}
 use Rattle.protocol.specs.declared.Event.{Event as Record}
 use Rattle.protocol.specs.Cells.{fresh, serverUp, row, votedYes, decided, known}
 use Rattle.protocol.specs.Events.{Event, recordOf, decide-arrives, ack-arrives, server-crashes}
-use Rattle.protocol.specs.Numbers.{countTests, refusal}
+use Rattle.protocol.specs.Numbers.{refusal}
 use Rattle.protocol.specs.Machine as machine
 use Rattle.protocol.specs.Agreement.{Id}
 use Rattle.protocol.specs.Progress as plans
@@ -28,20 +27,21 @@ use Rattle.promises.specs.Progress.{Never, Then, Settled, Progress}
 use Rattle.promises.proofs.Transfer.{from-fresh, progress-carries, acknowledgement-carries}
 
 -- for every list of records accepted whole from a fresh table
-pub demand-3 : (n : Counts) → T (every (countTests n)) → (list : List Record) → Accepted (freshTable n) list
+pub demand-3 : (n : Counts) (list : List Record) → Accepted (freshTable n) list
     → Progress n (after (freshTable n) list)
-demand-3 n counts list accepted =
+demand-3 n list accepted =
     let (events, stand) = from-fresh n list accepted in
     progress-carries n (after (freshTable n) list) (stand .table)
     (subst (plans.Progress n) (sym (stand .leads)) (progress n events (stand .accepts)))
 
--- "an acknowledgement is due as soon as its own decision has arrived": that of any server i that is up then, after anything accepted but a crash of i
-pub acknowledgement-due : (n : Counts) → T (every (countTests n)) → (list : List Record) → Accepted (freshTable n) list → (c k i d : ℕ)
+-- an acknowledgement is due as soon as its own decision has arrived (docs/DECISIONS.md, point 10): that of any server i that is up then, after anything
+-- accepted but a crash of i
+pub acknowledgement-due : (n : Counts) (list : List Record) → Accepted (freshTable n) list → (c k i d : ℕ)
     → (let t = after (freshTable n) list in
     let decide = recordOf (decide-arrives c k i d) in
     applied t decide .number ≡ 0 → view n t (serverUp i) ≡ 1
     → Then (λ gap q. Never (server-crashes i) gap) (ack-arrives c k i d) (λ q. T (has (view n q (row c k (known i))) d)) (applied t decide .cells))
-acknowledgement-due n counts list accepted c k i d arrives up =
+acknowledgement-due n list accepted c k i d arrives up =
     let (events, stand) = from-fresh n list accepted in
     let t = after (freshTable n) list in
     let e = decide-arrives c k i d in
@@ -55,10 +55,10 @@ acknowledgement-due n counts list accepted c k i d arrives up =
 
 -- "a vote is open when it is yes and its database has not decided since it was cast": over the events that the list stands for, that is a yes
 -- in the table whose database has not decided
-pub open-votes : (n : Counts) → T (every (countTests n)) → (list : List Record) → Accepted (freshTable n) list
+pub open-votes : (n : Counts) (list : List Record) → Accepted (freshTable n) list
     → (events : List Event) × (map recordOf events ≡ list) × ((c k d : ℕ) → Open n c k d (fresh n) events
     ↔ (T (has (view n (after (freshTable n) list) (row c k votedYes)) d) × T (not (has (view n (after (freshTable n) list) (row c k decided)) d))))
-open-votes n counts list accepted =
+open-votes n list accepted =
     let (events, stand) = from-fresh n list accepted in (
       events,
       stand .same,
@@ -67,10 +67,10 @@ open-votes n counts list accepted =
     )
 
 -- so once a list has settled a result, then and after whatever more is accepted, no vote on it is open
-pub no-vote-open : (n : Counts) → T (every (countTests n)) → (c k : ℕ) (list more : List Record)
+pub no-vote-open : (n : Counts) (c k : ℕ) (list more : List Record)
     → Accepted (freshTable n) list → Accepted (after (freshTable n) list) more → Settled n c k (after (after (freshTable n) list) more)
     → (events : List Event) × (map recordOf events ≡ list ++ more) × ((d : ℕ) → Id (n .databases) d → Open n c k d (fresh n) events → ⊥)
-no-vote-open n counts c k list more accepted later settled =
+no-vote-open n c k list more accepted later settled =
     let (before, first) = from-fresh n list accepted in
     let (behind, second) = stands n more (after (freshTable n) list) (first .table .counts) later in
     let leads = second .leads ∙ ap (λ s. machine.run n s behind) (first .leads) in

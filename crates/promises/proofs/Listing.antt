@@ -1,64 +1,57 @@
--- The listing: a line is malformed exactly where it is not the text of numbers, what stands behind the first refusal is not looked at, and the room suffices.
+-- The listing: what is read of an input, what becomes of its first line, that it prints what the list job answers, and that all of it is printed.
 use mathlib.Core.Logic.{_↔_}
-use mathlib.Core.Path.{_≡_, refl}
+use mathlib.Core.Path.{_≡_}
+use mathlib.Core.Bool.{true, false}
 use mathlib.Core.List.{List, [], _∷_, _++_}
-use mathlib.Core.Option.{Option, none, some}
-use Prim.Native.Nat.{ℕ, _≤_}
+use mathlib.Core.Option.{none, some}
+use Prim.Native.Nat.{ℕ, _≤_, _<_, min}
 use native.Mathlib.Omega.{arith}
-use lib.ListN.{length}
+use lib.Dec.{T}
+use lib.ListN.{length, take}
+use lib.Seq.{take-all, take-append-seam}
+use Rattle.lists.specs.Tests.{every}
 use Rattle.protocol.specs.declared.Counts.{Counts}
 use Rattle.protocol.specs.declared.Event.{Event as Record}
-use Rattle.table.specs.Jobs.{applied}
-use Rattle.text.specs.Writing.{space, newline, decimal, line}
-use Rattle.text.specs.Reading.{most, readNumber}
+use Rattle.protocol.specs.Numbers.{countTests}
+use Rattle.table.specs.Table.{sound, freshTable}
+use Rattle.table.specs.Jobs.{ran}
+use Rattle.table.proofs.Soundness as soundness
+use Rattle.text.specs.Writing.{decimal, line, over}
+use Rattle.text.specs.Reading.{most, isDigit, readNumber}
 use Rattle.text.proofs.Inverse.{read-written, written-read}
-use Rattle.lines.specs.Lines.{readCounts, readEvent, countsText, eventText}
-use Rattle.lines.proofs.Inverse.{CountsFit, counts-read, counts-written, EventFits, event-read, event-written}
-use Rattle.listing.specs.Script.{Script, ended, malformed, event, script}
-use Rattle.listing.specs.Listing.{played, listing}
+use Rattle.lines.specs.Lines.{readCounts, readEvent, countsText, CountsFit, eventText, EventFits}
+use Rattle.lines.proofs.Inverse as lines
+use Rattle.listing.specs.Script.{ended, malformed, event, script}
+use Rattle.listing.specs.Listing.{longest, played, listed, listing}
+use Rattle.listing.specs.Answered.{scriptOf, answerLines}
 use Rattle.listing.proofs.Script.{script-end, script-malformed, script-event}
-use Rattle.listing.proofs.Playing.{refused-text, refused-cells}
-use Rattle.listing.proofs.Length as length-of
+use Rattle.listing.proofs.Answered.{answered}
+use Rattle.listing.proofs.Whole as whole
+use Rattle.listing.proofs.Length as room
+use Rattle.promises.specs.Lists.{after}
 
 -- ---- "all are decimals up to 65535 (anything else is malformed), one space between, no leading zeros, each line ended by a newline"
 
-none-when : {X : Type 0} (o : Option X) → ((x : X) → o ≡ some x → ⊥) → o ≡ none
-none-when none h = refl
-none-when (some x) h = absurd (h x refl)
-
-never-both : {X : Type 0} (o : Option X) (x : X) → o ≡ none → o ≡ some x → ⊥
-never-both o x e f = let z : _≡_ {A = ℕ} 0 1 = cc in omega arith
-
--- a number that a space or a newline ends is read exactly where the text is its decimal and that byte
-pub number-exactly : (text : List ℕ) (n : ℕ) (rest : List ℕ) → (readNumber space text ≡ some (n, rest)) ↔ ((n ≤ most) × (text ≡ decimal n ++ (space ∷ rest)))
-number-exactly text n rest = (written-read space text n rest (omega arith), λ is. rw (is .1) (read-written n space rest (is .0) refl))
-
-pub last-exactly : (text : List ℕ) (n : ℕ) (rest : List ℕ) → (readNumber newline text ≡ some (n, rest)) ↔ ((n ≤ most) × (text ≡ decimal n ++ (newline ∷ rest)))
-last-exactly text n rest = (written-read newline text n rest (omega arith), λ is. rw (is .1) (read-written n newline rest (is .0) refl))
+-- a number is read exactly where the text is its decimal and the byte that has to end it, which may be any but a digit
+pub number-exactly : (end : ℕ) → isDigit end ≡ false → (text : List ℕ) (n : ℕ) (rest : List ℕ)
+    → (readNumber end text ≡ some (n, rest)) ↔ ((n ≤ most) × (text ≡ decimal n ++ (end ∷ rest)))
+number-exactly end other text n rest = (written-read end text n rest, λ is. rw (is .1) (read-written n end rest (is .0) other))
 
 module _ (text : List ℕ) where
-  -- the first line
+  -- the first line, and an event line: read exactly where the text is that of the numbers, malformed exactly where it is that of none
   pub counts-exactly : (n : Counts) (rest : List ℕ) → (readCounts text ≡ some (n, rest)) ↔ (CountsFit n × (text ≡ countsText n ++ rest))
-  counts-exactly n rest = (counts-written text n rest, λ is. rw (is .1) (counts-read n rest (is .0)))
+  counts-exactly n rest = (lines.counts-written text n rest, λ is. rw (is .1) (lines.counts-read n rest (is .0)))
 
   pub counts-malformed : (readCounts text ≡ none) ↔ ((n : Counts) (rest : List ℕ) → CountsFit n → text ≡ countsText n ++ rest → ⊥)
-  counts-malformed = (
-    λ e n rest fits is. never-both (readCounts text) (n, rest) e (counts-exactly n rest .1 (fits, is)),
-    λ h. none-when (readCounts text) λ x e. let is = counts-exactly (x .0) (x .1) .0 e in h (x .0) (x .1) (is .0) (is .1),
-  )
+  counts-malformed = lines.counts-malformed text
 
-  -- an event line
   pub event-exactly : (e : Record) (rest : List ℕ) → (readEvent text ≡ some (e, rest)) ↔ (EventFits e × (text ≡ eventText e ++ rest))
-  event-exactly e rest = (event-written text e rest, λ is. rw (is .1) (event-read e rest (is .0)))
+  event-exactly e rest = (lines.event-written text e rest, λ is. rw (is .1) (lines.event-read e rest (is .0)))
 
   pub event-malformed : (readEvent text ≡ none) ↔ ((e : Record) (rest : List ℕ) → EventFits e → text ≡ eventText e ++ rest → ⊥)
-  event-malformed = (
-    λ f e rest fits is. never-both (readEvent text) (e, rest) f (event-exactly e rest .1 (fits, is)),
-    λ h. none-when (readEvent text) λ x f. let is = event-exactly (x .0) (x .1) .0 f in h (x .0) (x .1) (is .0) (is .1),
-  )
+  event-malformed = lines.event-malformed text
 
--- ---- the lines behind the first, one after another, to the end of the input
-
+-- the lines behind the first, one after another, to the end of the input
 pub no-line : script [] ≡ ended
 no-line = script-end
 
@@ -68,12 +61,39 @@ malformed-line = script-malformed
 pub next-line : (text : List ℕ) (e : Record) (rest : List ℕ) → readEvent text ≡ some (e, rest) → script text ≡ event e (script rest)
 next-line = script-event
 
--- "up to the first refusal": a refused event's line is the last, and its table is printed
-pub refused-last : (place : ℕ) (cells : List ℕ) (e : Record) (more : Script) → (applied cells e .number ≡ 0 → ⊥)
-    → (played place cells (event e more) .text ≡ line (place ∷ applied cells e .number ∷ [])) × (played place cells (event e more) .cells ≡ applied cells e .cells)
-refused-last place cells e more refused = (refused-text place cells e more refused, refused-cells place cells e more refused)
+-- ---- "an input too long prints `0 8`", "a malformed or missing first line prints `0 8`, counts outside their range print `0 1`; then nothing more"
 
--- ---- the room of the program: no listing is longer
+module _ (input : List ℕ) where
+  pub too-long : longest < length input → listing input ≡ line (0 ∷ 8 ∷ [])
+  too-long = whole.too-long input
+
+  module _ (fits : length input ≤ longest) where
+    pub first-malformed : readCounts input ≡ none → listing input ≡ line (0 ∷ 8 ∷ [])
+    first-malformed = whole.no-counts input fits
+
+    module _ (n : Counts) (rest : List ℕ) (reads : readCounts input ≡ some (n, rest)) where
+      pub counts-refused : every (countTests n) ≡ false → listing input ≡ line (0 ∷ 1 ∷ [])
+      counts-refused = whole.counts-refused input fits n rest reads
+
+      -- else the events are played from the fresh table, and the clients and results follow
+      pub counts-accepted : every (countTests n) ≡ true → listing input ≡ listed n (played 1 (freshTable n) (script rest))
+      counts-accepted = whole.counts-listed input fits n rest reads
+
+-- ---- "for each event `k r`, its place and number, up to the first refusal": what is printed for records is what the list job answers on them, and
+-- the clients and results printed are those of the table that it leaves, so that demands 2 and 3 speak of them
+
+pub list-job-printed : (t : List ℕ) → T (sound t) → (list : List Record) (place : ℕ)
+    → (played place t (scriptOf list) .text ≡ answerLines place (ran t list .accepted) (ran t list .refusal))
+    × (played place t (scriptOf list) .cells ≡ after t list)
+list-job-printed t is-sound list place = answered list t place (soundness.sound-when t .1 is-sound)
+
+-- ---- all of it is printed: no listing is longer than the room that the program lends
 
 pub listing-fits : (input : List ℕ) → length (listing input) ≤ 65536
-listing-fits = length-of.listing-fits
+listing-fits = room.listing-fits
+
+pub printed-whole : (input out : List ℕ) → length out ≡ 65536 → take (min (length (listing input)) (length out)) (over out (listing input)) ≡ listing input
+printed-whole input out long =
+    let fits = listing-fits input in
+    let count : min (length (listing input)) (length out) ≡ length (listing input) = omega arith in
+    rw (count, take-all (length out) (listing input) (omega arith)) (take-append-seam (listing input) _)

@@ -1,14 +1,12 @@
 -- What the range check leans on: a loop over ids, the tests of a party by its cells, those of a row in groups, and the row lent by itself.
-use mathlib.Core.Path.{_≡_, refl, sym, ap, ap₂, _∙_}
+use mathlib.Core.Path.{_≡_, refl, ap, ap₂, _∙_}
 use mathlib.Core.Bool.{Bool, true, false, _&&_, Bool·beq}
 use mathlib.Core.List.{List, [], _∷_, _++_}
 use Prim.Native.Nat.{ℕ, zero, suc, _+_, _-_, _≤_, _<_}
-use native.Mathlib.Nat.{add-sub-cancel-left}
 use native.Mathlib.Omega.{arith}
 use lib.Dec.{eqb, leb}
 use lib.ListN.{length, getD, take, drop}
 use Rattle.lists.specs.Tests.{every, each, inside}
-use Rattle.lists.specs.Parts.{part}
 use Rattle.lists.proofs.Choice.{each-same, each-fails, in-inside, T-true}
 use Rattle.protocol.specs.declared.Counts.{Counts}
 use Rattle.protocol.specs.Agreement.{Id}
@@ -17,7 +15,7 @@ use Rattle.protocol.specs.Numbers.{serverTests, databaseTests, clientTests, row
 use Rattle.masks.specs.Mask.{all}
 use Rattle.table.specs.Layout.{slot, rowLength, rowStart, place, tableLength}
 use Rattle.table.specs.Table.{view, rowView}
-use Rattle.table.proofs.Lent.{row-view}
+use Rattle.table.proofs.Lent.{lent-view}
 use Rattle.layout.proofs.Laws.{serverUp-cell, suspects-cell, databaseUp-cell, ready-cell, clientUp-cell, phase-cell, attempt-cell}
 use Rattle.ranges.specs.Groups.{beginningTests, voteTests, endingTests}
 
@@ -112,6 +110,5 @@ pub lent-fits : (n : Counts) (t : List ℕ) (c k : ℕ) → length t ≡ tableLe
     → (start width : ℕ) → start ≡ rowStart n c k → width ≡ rowLength n
     → every (rowTests n (rowView n (take (start + width - start) (drop start t)))) ≡ every (rowTests n (rowOf (view n t) c k))
 lent-fits n t c k long cId kId start width s w =
-    ap (λ m. every (rowTests n (rowView n (part start m t)))) (add-sub-cancel-left start width ∙ w)
-    ∙ ap (λ a. every (rowTests n (rowView n (part a (rowLength n) t)))) s
-    ∙ ap (λ r. every (rowTests n r)) (sym (row-view n t c k long (in-inside (n .clients) c (cId .0) (cId .1)) (in-inside (n .attempts) k (kId .0) (kId .1))))
+    ap (λ r. every (rowTests n r))
+    (lent-view n t c k long (in-inside (n .clients) c (cId .0) (cId .1)) (in-inside (n .attempts) k (kId .0) (kId .1)) start width s w)

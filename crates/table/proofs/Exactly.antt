@@ -17,7 +17,7 @@ use Rattle.protocol.specs.Rules.{rule}
 use Rattle.protocol.specs.Numbers.{inRange, fields, fieldTests, acting, areUp, refusal, refusalAt, recordRefusal}
 use Rattle.protocol.proofs.Records.{kind-known, kind-unknown, event-record}
 use Rattle.table.specs.Table.{countsOf, view, sizeTests}
-use Rattle.table.specs.Jobs.{numberOf}
+use Rattle.table.specs.Jobs.{numberOf, applied}
 use Rattle.table.specs.Applies.{Applies, size, cell, unknown, field, down, unsent, unmet}
 
 -- 1 and 2 first, then the others
@@ -170,5 +170,6 @@ module _ (t : List ℕ) (r : Record) where
   applies-to-seven (unsent kind line fails) = omega arith
   applies-to-seven (unmet kind line fails) = omega arith
 
-  pub at-most-seven : numberOf t r ≤ 7
+  pub at-most-seven : applied t r .number ≤ 7
+  unfolding applied
   at-most-seven = by-eq (numberOf t r) 0 (λ e. omega arith) (λ given. applies-to-seven (gives (omega (arith, given))))

@@ -2,10 +2,11 @@
 use mathlib.Core.Path.{_≡_, refl, sym, ap, _∙_, fun-ext}
 use mathlib.Core.Bool.{Bool, true, false, cond}
 use mathlib.Core.List.{List, [], _∷_}
-use Prim.Native.Nat.{ℕ, _+_, _≤_, _<_}
+use Prim.Native.Nat.{ℕ, _+_, _-_, _≤_, _<_}
+use native.Mathlib.Nat.{add-sub-cancel-left}
 use native.Mathlib.Omega.{arith}
 use lib.Dec.{T}
-use lib.ListN.{length, getD, set, length-set}
+use lib.ListN.{length, getD, take, drop, set, length-set}
 use Rattle.lists.specs.Tests.{inside}
 use Rattle.lists.specs.Parts.{part, putBack}
 use Rattle.lists.proofs.Choice.{T-true}
@@ -33,6 +34,11 @@ module _ (n : Counts) (t : List ℕ) (c k : ℕ) (long : length t ≡ tableLengt
           → cond b (getD t (rowStart n c k + slot n f) 0) 0 ≡ cond b (getD (part (rowStart n c k) (rowLength n) t) (slot n f) 0) 0
       read f true h = sym (getD-part (rowStart n c k) (rowLength n) t (slot n f) (h tt))
       read f false h = refl
+
+  -- the same of the cells as code lends them, from a start to an end
+  pub lent-view : (start width : ℕ) → start ≡ rowStart n c k → width ≡ rowLength n → rowView n (take (start + width - start) (drop start t)) ≡ rowOf (view n t) c k
+  lent-view start width s w =
+      ap (λ m. rowView n (part start m t)) (add-sub-cancel-left start width ∙ w) ∙ ap (λ a. rowView n (part a (rowLength n) t)) s ∙ sym row-view
 
   -- the lent cells put back after writes to them
   put-back : (l : List ℕ) → length l ≡ rowLength n → (ws : RowWrites) → FieldsExist n ws

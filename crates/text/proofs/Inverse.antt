@@ -101,7 +101,7 @@ module _ (end : ℕ) (rest : List ℕ) where
       let behind = r .others ++ (end ∷ rest) in
       let reads = digit-read 0 (r .first) behind (r .small) (omega arith) ∙ rw zero-add (r .read (end ∷ rest)) ∙ digits-stop n other in
       let above : zeroDigit + r .first ≡ zeroDigit → ⊥ = λ e. omega (arith, r .low) in
-      rw (r .written) (sym (several ((zeroDigit + r .first) ∷ behind) 0 end _ (sym reads) (digit-is (r .first) (r .small)) above fits) ∙ ended-here n)
+      rw (r .written) (sym (several ((zeroDigit + r .first) ∷ behind) 0 end (omega arith) _ (sym reads) (digit-is (r .first) (r .small)) above fits) ∙ ended-here n)
 
 -- the byte that ends a number must be no digit: it would be read on
 pub read-written : (n end : ℕ) (rest : List ℕ) → n ≤ most → isDigit end ≡ false → readNumber end (decimal n ++ (end ∷ rest)) ≡ some (n, rest)
@@ -152,10 +152,9 @@ test-passed : {A : Type 0} (test : Bool) (seen : Option A) (a : A) → cond test
 test-passed true seen a e = (tt, e)
 test-passed false seen a e = absurd (Option·none-ne-some a e)
 
-module _ (end n : ℕ) (rest : List ℕ) (positive : 1 ≤ end) where
-  -- behind the end of a text stands 0, which ends no number
+module _ (end n : ℕ) (rest : List ℕ) where
   ended-back : (m : ℕ) (s : List ℕ) → endedBy end m s ≡ some (n, rest) → (m ≡ n) × (s ≡ end ∷ rest)
-  ended-back m [] e = let same = eqb→eq 0 end (test-passed (eqb 0 end) _ _ e .0) in absurd (omega arith)
+  ended-back m [] e = absurd (Option·none-ne-some _ e)
   ended-back m (b ∷ s) e =
       let (t, found) = test-passed (eqb b end) _ _ e in
       let pair = Option·some-injective _ _ found in
@@ -168,19 +167,18 @@ module _ (end n : ℕ) (rest : List ℕ) (positive : 1 ≤ end) where
       let (same, behind) = ended-back m s e in
       (omega arith, rw (← same, ← behind) written)
 
--- the byte that ends a number must not be 0: the end of the text would be read so
-pub written-read : (end : ℕ) (text : List ℕ) (n : ℕ) (rest : List ℕ) → 1 ≤ end → readNumber end text ≡ some (n, rest)
+pub written-read : (end : ℕ) (text : List ℕ) (n : ℕ) (rest : List ℕ) → readNumber end text ≡ some (n, rest)
     → (n ≤ most) × (text ≡ decimal n ++ (end ∷ rest))
 unfolding readNumber decimal
-written-read end [] n rest positive e = absurd (Option·none-ne-some _ e)
-written-read end (b ∷ s) n rest positive e =
+written-read end [] n rest e = absurd (Option·none-ne-some _ e)
+written-read end (b ∷ s) n rest e =
     let (digit, found) = test-passed (isDigit b) _ _ e in
     by-cond (λ (seen : Option (ℕ × List ℕ)). seen ≡ some (n, rest) → (n ≤ most) × (b ∷ s ≡ decimal n ++ (end ∷ rest))) (eqb b zeroDigit) _ _
-    (λ t. number-ended end n rest positive 0 s (b ∷ s) (omega arith) (ap (λ (x : ℕ). x ∷ s) (eqb→eq b zeroDigit t)))
+    (λ t. number-ended end n rest 0 s (b ∷ s) (omega arith) (ap (λ (x : ℕ). x ∷ s) (eqb→eq b zeroDigit t)))
     (λ t e.
     let (small, ended) = test-passed (leb (digits 0 (b ∷ s) .value) most) _ _ e in
     let fits = leb→le _ most small in
-    number-ended end n rest positive _ _ (b ∷ s) fits
+    number-ended end n rest _ _ (b ∷ s) fits
     (number-back b s (T-true (isDigit b) digit) (eqb-false b zeroDigit (T-false (eqb b zeroDigit) t)) fits) ended)
     found
 

@@ -9,8 +9,3 @@ use Rattle.text.specs.declared.Number.the-variants.{Found, Malformed}
 abbrev pub numberSeen : List ℕ → Number → Option (ℕ × List ℕ)
 numberSeen text (Found number next) = some (number, drop next text)
 numberSeen text Malformed = none
-
--- the place behind what was read
-abbrev pub numberEnd : Number → ℕ
-numberEnd (Found number next) = next
-numberEnd Malformed = 0

@@ -5,7 +5,7 @@ use Prim.Native.Nat.{ℕ, _+_, _/_, _%_}
 use lib.Dec.{leb, ltb}
 use lib.ListN.{length, take, drop, set}
 
--- the bytes between numbers, at the end of a line, and of the digit 0
+-- the bytes between numbers, at the end of a line, and of the first and the last digit
 abbrev pub space : ℕ
 space = 32
 
@@ -14,6 +14,9 @@ newline = 10
 
 abbrev pub zeroDigit : ℕ
 zeroDigit = 48
+
+abbrev pub nineDigit : ℕ
+nineDigit = 57
 
 -- ---- numbers and lines
 

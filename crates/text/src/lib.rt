@@ -1,11 +1,13 @@
 // Decimal numbers as text, and back: what the lines of a listing are made of.
 ghost use mathlib.Core.Path.{_≡_};
+ghost use mathlib.Core.Bool.{_&&_};
 ghost use mathlib.Core.List.{[], _∷_, _++_};
 ghost use Prim.Native.Nat.{_≤_};
-ghost use lib.ListN.{length, getD, drop};
+ghost use lib.Dec.{leb};
+ghost use lib.ListN.{drop};
 ghost use Rattle.text.specs.Writing.{Page, puts, digitAt, decimal};
-ghost use Rattle.text.specs.Reading.{isDigit, Digits, digits, endedBy, readNumber};
-ghost use Rattle.text.specs.Seen.{numberSeen, numberEnd};
+ghost use Rattle.text.specs.Reading.{most, isDigit, Digits, digits, endedBy, readNumber};
+ghost use Rattle.text.specs.Seen.{numberSeen};
 
 // The bytes that separate numbers, end a line, and start the digits.
 pub const SPACE: u8 = 32;
@@ -69,16 +71,6 @@ struct Run {
     next: usize,
 }
 
-// The byte at a place; 0, which no text has, behind the end.
-fn byte_at(input: &[u8], at: usize) -> u8
-    ensures { λ r. ⌜ r ≡ getD (now (input .entry)) at 0 ⌝ }
-{
-    if at < input.len() {
-        return input[at];
-    }
-    0
-}
-
 fn is_digit(byte: u8) -> bool
     ensures { λ r. ⌜ r ≡ isDigit byte ⌝ }
 {
@@ -88,23 +80,25 @@ fn is_digit(byte: u8) -> bool
     byte <= NINE
 }
 
+// Whether a byte is read as one digit more behind a value.
+fn reads_on(value: u32, byte: u8) -> bool
+    ensures { λ r. ⌜ r ≡ (isDigit byte && leb value most) ⌝ }
+{
+    if !is_digit(byte) {
+        return false;
+    }
+    value <= MOST
+}
+
 // The digits from a place on, as far as the value can still be a number of a line.
 fn read_digits(input: &[u8], start: usize) -> Run
-    requires { ⌜ start ≤ length (now input) ⌝ }
     ensures { λ r. ⌜ record { value = r .value; rest = drop (r .next) (now (input .entry)) } ≡ digits 0 (drop start (now (input .entry))) ⌝ }
-    ensures { λ r. ⌜ r .next ≤ length (now (input .entry)) ⌝ }
 {
     let mut value: u32 = 0;
     let mut at = start;
     while at < input.len() {
         let byte = input[at];
-        if !is_digit(byte) {
-            return Run {
-                value: value,
-                next: at,
-            };
-        }
-        if MOST < value {
+        if !reads_on(value, byte) {
             return Run {
                 value: value,
                 next: at,
@@ -121,23 +115,25 @@ fn read_digits(input: &[u8], start: usize) -> Run
 
 // A number that ends at a place, if the byte there is the one that has to end it.
 fn read_end(input: &[u8], at: usize, number: u16, end: u8) -> Number
-    requires { ⌜ 1 ≤ end ⌝ }
     ensures { λ r. ⌜ numberSeen (now (input .entry)) r ≡ endedBy end number (drop at (now (input .entry))) ⌝ }
-    ensures { λ r. ⌜ numberEnd r ≤ length (now (input .entry)) ⌝ }
 {
-    if byte_at(input, at) == end {
-        return Number::Found(number, at + 1);
+    if input.len() <= at {
+        return Number::Malformed;
     }
-    Number::Malformed
+    if input[at] != end {
+        return Number::Malformed;
+    }
+    Number::Found(number, at + 1)
 }
 
 // A number up to 65535 without leading zeros, and the byte that has to end it.
 pub fn read_number(input: &[u8], start: usize, end: u8) -> Number
-    requires { ⌜ 1 ≤ end ⌝ }
     ensures { λ r. ⌜ numberSeen (now (input .entry)) r ≡ readNumber end (drop start (now (input .entry))) ⌝ }
-    ensures { λ r. ⌜ numberEnd r ≤ length (now (input .entry)) ⌝ }
 {
-    let first = byte_at(input, start);
+    if input.len() <= start {
+        return Number::Malformed;
+    }
+    let first = input[start];
     if !is_digit(first) {
         return Number::Malformed;
     }

@@ -18,7 +18,7 @@ unfolding readCounts
 returns c =
     let clients = c .before .before in
     let input = clients .before .before .args .input .now in
-    (rw (malformed input 0 _ _ (clients .read-number .ensures .0) (c .enum-told .given .1)), search needs)
+    rw (malformed input 0 _ _ (clients .read-number .ensures) (c .enum-told .given .1))
 
 read-number-requires-2 : tie.Need-read-number-requires-2
 read-number-requires-2 c κs = search needs
@@ -34,12 +34,10 @@ unfolding readCounts
 returns-2 c =
     let servers = c .before .before in
     let clients = servers .before .before .before .before in
-    let input = clients .before .before .args .input .now in (
-      rw (
-        found input 0 _ _ (clients .read-number .ensures .0) _ _ (servers .before .before .clients .given .1),
-        malformed input _ _ _ (servers .read-number2 .ensures .0) (c .enum-told2 .given .1),
-      ),
-      search needs,
+    let input = clients .before .before .args .input .now in
+    rw (
+      found input 0 _ _ (clients .read-number .ensures) _ _ (servers .before .before .clients .given .1),
+      malformed input _ _ _ (servers .read-number2 .ensures) (c .enum-told2 .given .1),
     )
 
 read-number-requires-3 : tie.Need-read-number-requires-3
@@ -57,13 +55,11 @@ returns-3 c =
     let databases = c .before .before in
     let servers = databases .before .before .before .before in
     let clients = servers .before .before .before .before in
-    let input = clients .before .before .args .input .now in (
-      rw (
-        found input 0 _ _ (clients .read-number .ensures .0) _ _ (servers .before .before .clients .given .1),
-        found input _ _ _ (servers .read-number2 .ensures .0) _ _ (databases .before .before .servers .given .1),
-        malformed input _ _ _ (databases .read-number3 .ensures .0) (c .enum-told3 .given .1),
-      ),
-      search needs,
+    let input = clients .before .before .args .input .now in
+    rw (
+      found input 0 _ _ (clients .read-number .ensures) _ _ (servers .before .before .clients .given .1),
+      found input _ _ _ (servers .read-number2 .ensures) _ _ (databases .before .before .servers .given .1),
+      malformed input _ _ _ (databases .read-number3 .ensures) (c .enum-told3 .given .1),
     )
 
 read-number-requires-4 : tie.Need-read-number-requires-4
@@ -82,14 +78,12 @@ returns-4 c =
     let databases = attempts .before .before .before .before in
     let servers = databases .before .before .before .before in
     let clients = servers .before .before .before .before in
-    let input = clients .before .before .args .input .now in (
-      rw (
-        found input 0 _ _ (clients .read-number .ensures .0) _ _ (servers .before .before .clients .given .1),
-        found input _ _ _ (servers .read-number2 .ensures .0) _ _ (databases .before .before .servers .given .1),
-        found input _ _ _ (databases .read-number3 .ensures .0) _ _ (attempts .before .before .databases .given .1),
-        malformed input _ _ _ (attempts .read-number4 .ensures .0) (c .enum-told4 .given .1),
-      ),
-      search needs,
+    let input = clients .before .before .args .input .now in
+    rw (
+      found input 0 _ _ (clients .read-number .ensures) _ _ (servers .before .before .clients .given .1),
+      found input _ _ _ (servers .read-number2 .ensures) _ _ (databases .before .before .servers .given .1),
+      found input _ _ _ (databases .read-number3 .ensures) _ _ (attempts .before .before .databases .given .1),
+      malformed input _ _ _ (attempts .read-number4 .ensures) (c .enum-told4 .given .1),
     )
 
 returns-5 : tie.Need-returns-5
@@ -99,14 +93,12 @@ returns-5 c =
     let databases = attempts .before .before .before .before in
     let servers = databases .before .before .before .before in
     let clients = servers .before .before .before .before in
-    let input = clients .before .before .args .input .now in (
-      rw (
-        found input 0 _ _ (clients .read-number .ensures .0) _ _ (servers .before .before .clients .given .1),
-        found input _ _ _ (servers .read-number2 .ensures .0) _ _ (databases .before .before .servers .given .1),
-        found input _ _ _ (databases .read-number3 .ensures .0) _ _ (attempts .before .before .databases .given .1),
-        found input _ _ _ (attempts .read-number4 .ensures .0) _ _ (c .before .attempts .given .1),
-      ),
-      rw (c .before .attempts .given .1) at (attempts .read-number4 .ensures .1),
+    let input = clients .before .before .args .input .now in
+    rw (
+      found input 0 _ _ (clients .read-number .ensures) _ _ (servers .before .before .clients .given .1),
+      found input _ _ _ (servers .read-number2 .ensures) _ _ (databases .before .before .servers .given .1),
+      found input _ _ _ (databases .read-number3 .ensures) _ _ (attempts .before .before .databases .given .1),
+      found input _ _ _ (attempts .read-number4 .ensures) _ _ (c .before .attempts .given .1),
     )
 
 pub read-counts-spec : {M : Type 1} → statement M

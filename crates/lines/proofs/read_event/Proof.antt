@@ -18,7 +18,7 @@ unfolding readEvent
 returns c =
     let kind = c .before .before in
     let input = kind .before .before .args .input .now in
-    (rw (malformed input _ _ _ (kind .read-number .ensures .0) (c .enum-told .given .1)), search needs)
+    rw (malformed input _ _ _ (kind .read-number .ensures) (c .enum-told .given .1))
 
 read-number-requires-2 : tie.Need-read-number-requires-2
 read-number-requires-2 c κs = search needs
@@ -34,12 +34,10 @@ unfolding readEvent
 returns-2 c =
     let client = c .before .before in
     let kind = client .before .before .before .before in
-    let input = kind .before .before .args .input .now in (
-      rw (
-        found input _ _ _ (kind .read-number .ensures .0) _ _ (client .before .before .kind .given .1),
-        malformed input _ _ _ (client .read-number2 .ensures .0) (c .enum-told2 .given .1),
-      ),
-      search needs,
+    let input = kind .before .before .args .input .now in
+    rw (
+      found input _ _ _ (kind .read-number .ensures) _ _ (client .before .before .kind .given .1),
+      malformed input _ _ _ (client .read-number2 .ensures) (c .enum-told2 .given .1),
     )
 
 read-number-requires-3 : tie.Need-read-number-requires-3
@@ -57,13 +55,11 @@ returns-3 c =
     let attempt = c .before .before in
     let client = attempt .before .before .before .before in
     let kind = client .before .before .before .before in
-    let input = kind .before .before .args .input .now in (
-      rw (
-        found input _ _ _ (kind .read-number .ensures .0) _ _ (client .before .before .kind .given .1),
-        found input _ _ _ (client .read-number2 .ensures .0) _ _ (attempt .before .before .client .given .1),
-        malformed input _ _ _ (attempt .read-number3 .ensures .0) (c .enum-told3 .given .1),
-      ),
-      search needs,
+    let input = kind .before .before .args .input .now in
+    rw (
+      found input _ _ _ (kind .read-number .ensures) _ _ (client .before .before .kind .given .1),
+      found input _ _ _ (client .read-number2 .ensures) _ _ (attempt .before .before .client .given .1),
+      malformed input _ _ _ (attempt .read-number3 .ensures) (c .enum-told3 .given .1),
     )
 
 read-number-requires-4 : tie.Need-read-number-requires-4
@@ -82,14 +78,12 @@ returns-4 c =
     let attempt = server .before .before .before .before in
     let client = attempt .before .before .before .before in
     let kind = client .before .before .before .before in
-    let input = kind .before .before .args .input .now in (
-      rw (
-        found input _ _ _ (kind .read-number .ensures .0) _ _ (client .before .before .kind .given .1),
-        found input _ _ _ (client .read-number2 .ensures .0) _ _ (attempt .before .before .client .given .1),
-        found input _ _ _ (attempt .read-number3 .ensures .0) _ _ (server .before .before .attempt .given .1),
-        malformed input _ _ _ (server .read-number4 .ensures .0) (c .enum-told4 .given .1),
-      ),
-      search needs,
+    let input = kind .before .before .args .input .now in
+    rw (
+      found input _ _ _ (kind .read-number .ensures) _ _ (client .before .before .kind .given .1),
+      found input _ _ _ (client .read-number2 .ensures) _ _ (attempt .before .before .client .given .1),
+      found input _ _ _ (attempt .read-number3 .ensures) _ _ (server .before .before .attempt .given .1),
+      malformed input _ _ _ (server .read-number4 .ensures) (c .enum-told4 .given .1),
     )
 
 read-number-requires-5 : tie.Need-read-number-requires-5
@@ -109,15 +103,13 @@ returns-5 c =
     let attempt = server .before .before .before .before in
     let client = attempt .before .before .before .before in
     let kind = client .before .before .before .before in
-    let input = kind .before .before .args .input .now in (
-      rw (
-        found input _ _ _ (kind .read-number .ensures .0) _ _ (client .before .before .kind .given .1),
-        found input _ _ _ (client .read-number2 .ensures .0) _ _ (attempt .before .before .client .given .1),
-        found input _ _ _ (attempt .read-number3 .ensures .0) _ _ (server .before .before .attempt .given .1),
-        found input _ _ _ (server .read-number4 .ensures .0) _ _ (database .before .before .server .given .1),
-        malformed input _ _ _ (database .read-number5 .ensures .0) (c .enum-told5 .given .1),
-      ),
-      search needs,
+    let input = kind .before .before .args .input .now in
+    rw (
+      found input _ _ _ (kind .read-number .ensures) _ _ (client .before .before .kind .given .1),
+      found input _ _ _ (client .read-number2 .ensures) _ _ (attempt .before .before .client .given .1),
+      found input _ _ _ (attempt .read-number3 .ensures) _ _ (server .before .before .attempt .given .1),
+      found input _ _ _ (server .read-number4 .ensures) _ _ (database .before .before .server .given .1),
+      malformed input _ _ _ (database .read-number5 .ensures) (c .enum-told5 .given .1),
     )
 
 read-number-requires-6 : tie.Need-read-number-requires-6
@@ -138,16 +130,14 @@ returns-6 c =
     let attempt = server .before .before .before .before in
     let client = attempt .before .before .before .before in
     let kind = client .before .before .before .before in
-    let input = kind .before .before .args .input .now in (
-      rw (
-        found input _ _ _ (kind .read-number .ensures .0) _ _ (client .before .before .kind .given .1),
-        found input _ _ _ (client .read-number2 .ensures .0) _ _ (attempt .before .before .client .given .1),
-        found input _ _ _ (attempt .read-number3 .ensures .0) _ _ (server .before .before .attempt .given .1),
-        found input _ _ _ (server .read-number4 .ensures .0) _ _ (database .before .before .server .given .1),
-        found input _ _ _ (database .read-number5 .ensures .0) _ _ (value .before .before .database .given .1),
-        malformed input _ _ _ (value .read-number6 .ensures .0) (c .enum-told6 .given .1),
-      ),
-      search needs,
+    let input = kind .before .before .args .input .now in
+    rw (
+      found input _ _ _ (kind .read-number .ensures) _ _ (client .before .before .kind .given .1),
+      found input _ _ _ (client .read-number2 .ensures) _ _ (attempt .before .before .client .given .1),
+      found input _ _ _ (attempt .read-number3 .ensures) _ _ (server .before .before .attempt .given .1),
+      found input _ _ _ (server .read-number4 .ensures) _ _ (database .before .before .server .given .1),
+      found input _ _ _ (database .read-number5 .ensures) _ _ (value .before .before .database .given .1),
+      malformed input _ _ _ (value .read-number6 .ensures) (c .enum-told6 .given .1),
     )
 
 returns-7 : tie.Need-returns-7
@@ -159,16 +149,14 @@ returns-7 c =
     let attempt = server .before .before .before .before in
     let client = attempt .before .before .before .before in
     let kind = client .before .before .before .before in
-    let input = kind .before .before .args .input .now in (
-      rw (
-        found input _ _ _ (kind .read-number .ensures .0) _ _ (client .before .before .kind .given .1),
-        found input _ _ _ (client .read-number2 .ensures .0) _ _ (attempt .before .before .client .given .1),
-        found input _ _ _ (attempt .read-number3 .ensures .0) _ _ (server .before .before .attempt .given .1),
-        found input _ _ _ (server .read-number4 .ensures .0) _ _ (database .before .before .server .given .1),
-        found input _ _ _ (database .read-number5 .ensures .0) _ _ (value .before .before .database .given .1),
-        found input _ _ _ (value .read-number6 .ensures .0) _ _ (c .before .value .given .1),
-      ),
-      rw (c .before .value .given .1) at (value .read-number6 .ensures .1),
+    let input = kind .before .before .args .input .now in
+    rw (
+      found input _ _ _ (kind .read-number .ensures) _ _ (client .before .before .kind .given .1),
+      found input _ _ _ (client .read-number2 .ensures) _ _ (attempt .before .before .client .given .1),
+      found input _ _ _ (attempt .read-number3 .ensures) _ _ (server .before .before .attempt .given .1),
+      found input _ _ _ (server .read-number4 .ensures) _ _ (database .before .before .server .given .1),
+      found input _ _ _ (database .read-number5 .ensures) _ _ (value .before .before .database .given .1),
+      found input _ _ _ (value .read-number6 .ensures) _ _ (c .before .value .given .1),
     )
 
 pub read-event-spec : {M : Type 1} → statement M

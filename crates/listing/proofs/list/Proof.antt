@@ -42,7 +42,7 @@ returns-2 c =
     let read = c .before .before .before .before .before .before in
     let start = read .before .before .before .before in
     let input = start .args .input .now in
-    printed input _ _ _ _ (no-counts input (read .before .if1 .left) (malformed-counts input _ (read .read-counts .ensures .0) (c .before .before .before .before .enum-told .given .1)))
+    printed input _ _ _ _ (no-counts input (read .before .if1 .left) (malformed-counts input _ (read .read-counts .ensures) (c .before .before .before .before .enum-told .given .1)))
     (c .before .before .refuse2 .ensures)
 
 counts-fit-requires : tie.Need-counts-fit-requires
@@ -61,7 +61,7 @@ returns-3 c =
     let read = fit .before .before .before .before in
     let input = read .before .before .before .before .args .input .now in
     printed input _ _ _ _
-    (counts-refused input (read .before .if1 .left) _ _ (found-counts input _ (read .read-counts .ensures .0) _ (counts .given .0 .1 .0) (counts .given .1))
+    (counts-refused input (read .before .if1 .left) _ _ (found-counts input _ (read .read-counts .ensures) _ (counts .given .0 .1 .0) (counts .given .1))
     (sym (fit .counts-fit .ensures) ∙ not-true _ (c .before .before .before .before .if2 .taken)))
     (c .before .before .refuse3 .ensures)
 
@@ -91,7 +91,7 @@ list-on-requires c κs =
     let read = test .before .before .before .before .before in
     let fits = true-T _ (sym (test .before .counts-fit .ensures) ∙ not-false _ (test .if2 .left)) in (
       simp length-take (omega (arith, length-most (counts .given .0 .0) fits, size .table-length .ensures, size .before .blank .ensures)),
-      (tests-ranged _ fits, (rw (counts .given .1) at (read .read-counts .ensures .1), read .before .if1 .left)),
+      (tests-ranged _ fits, read .before .if1 .left),
     )
 
 same-length-4 : tie.Need-same-length-4
@@ -104,7 +104,7 @@ returns-4 c =
     let read = test .before .before .before .before .before in
     let input = read .before .before .before .before .args .input .now in
     printed input _ _ _ _
-    (counts-listed input (read .before .if1 .left) _ _ (found-counts input _ (read .read-counts .ensures .0) _ (counts .given .0 .1 .0) (counts .given .1))
+    (counts-listed input (read .before .if1 .left) _ _ (found-counts input _ (read .read-counts .ensures) _ (counts .given .0 .1 .0) (counts .given .1))
     (sym (test .before .counts-fit .ensures) ∙ not-false _ (test .if2 .left)))
     (c .before .before .before .list-on .ensures)
 

@@ -18,9 +18,7 @@ abbrev μ-loop : tie.MeasureT-loop
 μ-loop out₀ table₀ input start at₀ place₀ next₀ out table at place next = length input - next
 
 loop-holds : tie.Need-loop-holds Inv-loop μ-loop
-loop-holds c =
-    let start = c .before .before .before in
-    (refl, refl, begins _ _ _ _ (start .pre .0))
+loop-holds c = (refl, refl, begins _ _ _ _)
 
 read-event-requires : tie.Need-read-event-requires Inv-loop μ-loop
 read-event-requires c κs = search needs
@@ -46,7 +44,7 @@ returns c =
     let loop = read .before .before in
     let input = loop .before .before .before .before .args .input .now in
     at-malformed _ _ _ _ _ _ _ _ (loop .loop .inv .2) (omega arith)
-    (malformed-line input (loop .loop .next) _ (read .read-event .ensures .0) (c .before .before .before .before .enum-told .given .1))
+    (malformed-line input (loop .loop .next) _ (read .read-event .ensures) (c .before .before .before .before .enum-told .given .1))
     _ (c .before .before .put-place .ensures)
 
 play-event-requires : tie.Need-play-event-requires Inv-loop μ-loop
@@ -70,14 +68,14 @@ returns-2 c =
     let loop = read .before .before in
     let input = loop .before .before .before .before .args .input .now in
     at-refused _ _ _ _ _ _ _ _ (loop .loop .inv .2) _ (event .given .0 .1 .0)
-    (found-line input (loop .loop .next) _ (read .read-event .ensures .0) _ (event .given .0 .1 .0) (event .given .1))
+    (found-line input (loop .loop .next) _ (read .read-event .ensures) _ (event .given .0 .1 .0) (event .given .1))
     _ _ (played .play-event .ensures .0) (played .play-event .ensures .1 .1)
     (λ e. c .if1 .taken (played .play-event .ensures .1 .0 ∙ e))
 
 add-place : tie.Need-add-place Inv-loop μ-loop
 add-place c =
     let loop = c .before .before .before .before .before .before .before .before .before .before .before .before .before .before in
-    omega (arith, loop .loop .inv .2 .few, loop .loop .inv .2 .high, loop .before .before .before .before .pre .1)
+    omega (arith, loop .loop .inv .2 .few, loop .before .before .before .before .pre)
 
 loop-less : tie.Need-loop-less Inv-loop μ-loop
 loop-less c =
@@ -86,11 +84,10 @@ loop-less c =
     let read = played .before .before .before .before .before .before in
     let loop = read .before .before in
     let input = loop .before .before .before .before .args .input .now in
-    let inside = rw (event .given .1) at (read .read-event .ensures .1) in
     omega (
       arith,
-      further input (loop .loop .next) (event .given .0 .1 .0) _ (found-line input (loop .loop .next) _ (read .read-event .ensures .0) _ (event .given .0 .1 .0) (event .given .1))
-          (omega arith) inside,
+      further input (loop .loop .next) (event .given .0 .1 .0) _ (found-line input (loop .loop .next) _ (read .read-event .ensures) _ (event .given .0 .1 .0) (event .given .1))
+          (omega arith),
     )
 
 loop-again : tie.Need-loop-again Inv-loop μ-loop
@@ -103,9 +100,8 @@ loop-again c =
       played .play-event .kept .0 ∙ loop .loop .inv .0,
       played .play-event .kept .1 .1 .0 ∙ loop .loop .inv .1,
       at-accepted _ _ _ _ _ _ _ _ (loop .loop .inv .2) _ (event .given .0 .1 .0)
-          (found-line input (loop .loop .next) _ (read .read-event .ensures .0) _ (event .given .0 .1 .0) (event .given .1))
+          (found-line input (loop .loop .next) _ (read .read-event .ensures) _ (event .given .0 .1 .0) (event .given .1))
           _ _ (played .play-event .ensures .0) (played .play-event .ensures .1 .1) (omega arith)
-          (rw (event .given .1) at (read .read-event .ensures .1))
           (sym (played .play-event .ensures .1 .0) ∙ c .if1 .left),
     )
 

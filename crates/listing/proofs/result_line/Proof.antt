@@ -62,7 +62,7 @@ returns : tie.Need-returns
 returns c =
     let width = c .before .before .before .before .before in
     let start = width .before .before .before .before in
-    c .before .before .row-line .ensures
+    c .before .before .row-line .ensures (start .args .counts)
     ∙ ap (puts (record { cells = start .args .out .now; at = start .args .at }))
     (lent-line (start .args .counts) (start .args .table .now) _ _ (start .pre .0) (start .pre .1 .1 .0) (start .pre .1 .1 .1)
     _ _ (width .before .row-start .ensures) (width .row-length .ensures))

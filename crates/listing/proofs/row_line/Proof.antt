@@ -10,7 +10,7 @@ shared-slice-read-if1 c = search needs
 
 returns : tie.Need-returns
 unfolding puts
-returns c = rw (eq-eqb _ _ (c .if1 .taken))
+returns c n = rw (eq-eqb _ _ (c .if1 .taken))
 
 shared-slice-read-count : tie.Need-shared-slice-read-count
 shared-slice-read-count c = search needs
@@ -40,7 +40,7 @@ same-length : tie.Need-same-length
 same-length c = search needs
 
 returns-2 : tie.Need-returns-2
-returns-2 c =
+returns-2 c n =
     let commits = c .before .before .before .before .before .before .before in
     let votes = commits .before .before in
     rw (ne-eqb _ _ (votes .before .before .if1 .left), sym (votes .count .ensures), sym (commits .count2 .ensures)) (c .before .before .put-result .ensures)

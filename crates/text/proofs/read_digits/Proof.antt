@@ -1,68 +1,65 @@
 use mathlib.Core.Path.{_≡_, refl, sym, _∙_}
 use Prim.Native.Nat.{_≤_, _-_}
 use native.Mathlib.Omega.{arith}
-use lib.ListN.{length, getD, drop}
+use lib.ListN.{length, drop}
 use borrow.Author.Needs.{needs}
 use borrow.Author.Tests.{not-true, not-false}
 use Rattle.text.specs.Reading.{digits}
-use Rattle.text.proofs.Digits.{digit-bounds, digit-taken, digits-end, digits-large, digits-none}
+use Rattle.text.proofs.Digits.{digit-taken, taken-bounds, digits-end, digits-none}
 use Rattle.text.proofs.read_digits.Statement.{statement}
 use Rattle.text.proofs.read_digits.Tie as tie
 
 abbrev Inv-loop : tie.InvT-loop
-Inv-loop input start value₀ at₀ value at =
-    (at ≤ length input) × (value ≤ 655359) × (digits 0 (drop start input) ≡ digits value (drop at input))
+Inv-loop input start value₀ at₀ value at = (value ≤ 655359) × (digits 0 (drop start input) ≡ digits value (drop at input))
 
 abbrev μ-loop : tie.MeasureT-loop
 μ-loop input start value₀ at₀ value at = length input - at
 
 loop-holds : tie.Need-loop-holds Inv-loop μ-loop
-loop-holds c = (omega arith, omega arith, refl)
+loop-holds c = (omega arith, refl)
 
 shared-slice-read-byte : tie.Need-shared-slice-read-byte Inv-loop μ-loop
 shared-slice-read-byte c = search needs
 
-is-digit-requires : tie.Need-is-digit-requires Inv-loop μ-loop
-is-digit-requires c κs = search needs
+reads-on-requires : tie.Need-reads-on-requires Inv-loop μ-loop
+reads-on-requires c κs = search needs
 
 returns : tie.Need-returns Inv-loop μ-loop
 returns c =
     let loop = c .before .before .before .before in
     let input = loop .before .before .args .input .now in
-    (sym (loop .loop .inv .2 ∙ digits-end input _ _ (omega arith) (sym (c .before .is-digit .ensures) ∙ not-true _ (c .if1 .taken))), omega arith)
-
-returns-2 : tie.Need-returns-2 Inv-loop μ-loop
-returns-2 c =
-    let loop = c .before .before .before .before .before in
-    let input = loop .before .before .args .input .now in
-    let digit = sym (c .before .before .is-digit .ensures) ∙ not-false _ (c .before .if1 .left) in
-    (sym (loop .loop .inv .2 ∙ digits-large input _ _ (omega arith) digit (omega arith)), omega arith)
+    sym (loop .loop .inv .1 ∙ digits-end input _ _ (omega arith) (sym (c .before .reads-on .ensures) ∙ not-true _ (c .if1 .taken)))
 
 mul-value : tie.Need-mul-value Inv-loop μ-loop
-mul-value c = search needs
+mul-value c =
+    let loop = c .before .before .before .before in
+    let input = loop .before .before .args .input .now in
+    let goes = sym (c .before .reads-on .ensures) ∙ not-false _ (c .if1 .left) in
+    let bounds = taken-bounds input (loop .loop .value) (loop .loop .at) goes in
+    omega arith
 
 sub-value : tie.Need-sub-value Inv-loop μ-loop
 sub-value c =
-    let loop = c .before .before .before .before .before in
+    let loop = c .before .before .before .before in
     let input = loop .before .before .args .input .now in
-    let digit = sym (c .before .before .is-digit .ensures) ∙ not-false _ (c .before .if1 .left) in
-    let bounds = digit-bounds (getD input (loop .loop .at) 0) digit in
+    let goes = sym (c .before .reads-on .ensures) ∙ not-false _ (c .if1 .left) in
+    let bounds = taken-bounds input (loop .loop .value) (loop .loop .at) goes in
     omega arith
 
 cast-value : tie.Need-cast-value Inv-loop μ-loop
 cast-value c =
-    let loop = c .before .before .before .before .before in
+    let loop = c .before .before .before .before in
     let input = loop .before .before .args .input .now in
-    let digit = sym (c .before .before .is-digit .ensures) ∙ not-false _ (c .before .if1 .left) in
-    let bounds = digit-bounds (getD input (loop .loop .at) 0) digit in
+    let goes = sym (c .before .reads-on .ensures) ∙ not-false _ (c .if1 .left) in
+    let bounds = taken-bounds input (loop .loop .value) (loop .loop .at) goes in
     omega arith
 
 add-value : tie.Need-add-value Inv-loop μ-loop
 add-value c =
-    let loop = c .before .before .before .before .before in
+    let loop = c .before .before .before .before in
     let input = loop .before .before .args .input .now in
-    let digit = sym (c .before .before .is-digit .ensures) ∙ not-false _ (c .before .if1 .left) in
-    let bounds = digit-bounds (getD input (loop .loop .at) 0) digit in
+    let goes = sym (c .before .reads-on .ensures) ∙ not-false _ (c .if1 .left) in
+    let bounds = taken-bounds input (loop .loop .value) (loop .loop .at) goes in
     omega arith
 
 add-at : tie.Need-add-at Inv-loop μ-loop
@@ -73,16 +70,16 @@ loop-less c = search needs
 
 loop-again : tie.Need-loop-again Inv-loop μ-loop
 loop-again c =
-    let loop = c .before .before .before .before .before in
+    let loop = c .before .before .before .before in
     let input = loop .before .before .args .input .now in
-    let digit = sym (c .before .before .is-digit .ensures) ∙ not-false _ (c .before .if1 .left) in
-    let bounds = digit-bounds (getD input (loop .loop .at) 0) digit in
-    (omega arith, omega arith, loop .loop .inv .2 ∙ digit-taken input _ _ (omega arith) digit (omega arith))
+    let goes = sym (c .before .reads-on .ensures) ∙ not-false _ (c .if1 .left) in
+    let bounds = taken-bounds input (loop .loop .value) (loop .loop .at) goes in
+    (omega arith, loop .loop .inv .1 ∙ digit-taken input _ _ (omega arith) goes)
 
-returns-3 : tie.Need-returns-3 Inv-loop μ-loop
-returns-3 c =
+returns-2 : tie.Need-returns-2 Inv-loop μ-loop
+returns-2 c =
     let input = c .before .before .before .args .input .now in
-    (sym (c .before .loop .inv .2 ∙ digits-none input (c .before .loop .value) (c .before .loop .at) (omega arith)), omega arith)
+    sym (c .before .loop .inv .1 ∙ digits-none input (c .before .loop .value) (c .before .loop .at) (omega arith))
 
 pub read-digits-spec : {M : Type 1} → statement M
 read-digits-spec =
@@ -92,9 +89,8 @@ read-digits-spec =
     μ-loop
     loop-holds
     shared-slice-read-byte
-    is-digit-requires
+    reads-on-requires
     returns
-    returns-2
     mul-value
     sub-value
     cast-value
@@ -102,4 +98,4 @@ read-digits-spec =
     add-at
     loop-less
     loop-again
-    returns-3)
+    returns-2)

@@ -1,0 +1,17 @@
+-- The listing beside the list job: the script of a list of records, and the lines that an answer of the list job prints.
+use mathlib.Core.List.{List, [], _∷_, _++_}
+use Prim.Native.Nat.{ℕ, zero, suc}
+use Rattle.protocol.specs.declared.Event.{Event}
+use Rattle.text.specs.Writing.{line}
+use Rattle.listing.specs.Script.{Script, ended, event}
+
+-- records one after another, then the end
+abbrev pub scriptOf : List Event → Script
+scriptOf [] = ended
+scriptOf (e ∷ list) = event e (scriptOf list)
+
+-- from a place on: `k 0` for each accepted event, and the line of the refusal, if there is one
+unfoldable pub answerLines : ℕ → ℕ → ℕ → List ℕ
+answerLines place zero zero = []
+answerLines place zero (suc refusal) = line (place ∷ suc refusal ∷ [])
+answerLines place (suc accepted) refusal = line (place ∷ 0 ∷ []) ++ answerLines (suc place) accepted refusal
