@@ -1,14 +1,24 @@
--- The listing beside the list job: the script of a list of records, and the lines that an answer of the list job prints.
+-- The listing beside the list job: a list of records as a script and as text, and the lines that an answer of the list job prints.
 use mathlib.Core.List.{List, [], _∷_, _++_}
 use Prim.Native.Nat.{ℕ, zero, suc}
 use Rattle.protocol.specs.declared.Event.{Event}
 use Rattle.text.specs.Writing.{line}
+use Rattle.lines.specs.Lines.{eventText, EventFits}
 use Rattle.listing.specs.Script.{Script, ended, event}
 
 -- records one after another, then the end
 abbrev pub scriptOf : List Event → Script
 scriptOf [] = ended
 scriptOf (e ∷ list) = event e (scriptOf list)
+
+-- their lines, and that each is one
+abbrev pub texts : List Event → List ℕ
+texts [] = []
+texts (e ∷ list) = eventText e ++ texts list
+
+abbrev pub RecordsFit : List Event → Type 0
+RecordsFit [] = Unit {0}
+RecordsFit (e ∷ list) = EventFits e × RecordsFit list
 
 -- from a place on: `k 0` for each accepted event, and the line of the refusal, if there is one
 unfoldable pub answerLines : ℕ → ℕ → ℕ → List ℕ

@@ -13,7 +13,7 @@ use Rattle.lists.specs.Tests.{every}
 use Rattle.protocol.specs.declared.Counts.{Counts}
 use Rattle.protocol.specs.declared.Event.{Event as Record}
 use Rattle.protocol.specs.Numbers.{countTests}
-use Rattle.table.specs.Table.{sound, freshTable}
+use Rattle.table.specs.Table.{view, sound, freshTable}
 use Rattle.table.specs.Jobs.{ran}
 use Rattle.table.proofs.Soundness as soundness
 use Rattle.text.specs.Writing.{decimal, line, over}
@@ -22,10 +22,10 @@ use Rattle.text.proofs.Inverse.{read-written, written-read}
 use Rattle.lines.specs.Lines.{readCounts, readEvent, countsText, CountsFit, eventText, EventFits}
 use Rattle.lines.proofs.Inverse as lines
 use Rattle.listing.specs.Script.{ended, malformed, event, script}
-use Rattle.listing.specs.Listing.{longest, played, listed, listing}
-use Rattle.listing.specs.Answered.{scriptOf, answerLines}
+use Rattle.listing.specs.Listing.{longest, played, ending, listed, listing}
+use Rattle.listing.specs.Answered.{scriptOf, texts, RecordsFit, answerLines}
 use Rattle.listing.proofs.Script.{script-end, script-malformed, script-event}
-use Rattle.listing.proofs.Answered.{answered}
+use Rattle.listing.proofs.Answered as answers
 use Rattle.listing.proofs.Whole as whole
 use Rattle.listing.proofs.Length as room
 use Rattle.promises.specs.Lists.{after}
@@ -85,7 +85,14 @@ module _ (input : List ℕ) where
 pub list-job-printed : (t : List ℕ) → T (sound t) → (list : List Record) (place : ℕ)
     → (played place t (scriptOf list) .text ≡ answerLines place (ran t list .accepted) (ran t list .refusal))
     × (played place t (scriptOf list) .cells ≡ after t list)
-list-job-printed t is-sound list place = answered list t place (soundness.sound-when t .1 is-sound)
+list-job-printed t is-sound list place = answers.answered list t place (soundness.sound-when t .1 is-sound)
+
+-- so for every setup in range and every list of records whose text is not too long: the answers of the list job from the fresh table, then the clients
+-- and results of the table that it leaves
+pub records-listed : (n : Counts) (list : List Record) → every (countTests n) ≡ true → RecordsFit list → length (countsText n ++ texts list) ≤ longest
+    → (let answer = ran (freshTable n) list in
+    listing (countsText n ++ texts list) ≡ answerLines 1 (answer .accepted) (answer .refusal) ++ ending n (view n (answer .cells)))
+records-listed = answers.records-listed
 
 -- ---- all of it is printed: no listing is longer than the room that the program lends
 
