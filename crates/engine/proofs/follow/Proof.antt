@@ -1,3 +1,4 @@
+-- `engine::follow` meets its contract.
 use mathlib.Core.Path.{refl}
 use native.Mathlib.Omega.{arith}
 use Rattle.rules.proofs.Laws.{at-kind}

@@ -1,3 +1,4 @@
+-- `engine::parties_up` meets its contract.
 use mathlib.Core.Path.{_≡_, sym, _∙_}
 use native.Mathlib.Omega.{arith}
 use Rattle.rules.proofs.Laws.{at-kind}

@@ -1,3 +1,4 @@
+-- `engine::server_up` meets its contract.
 use mathlib.Core.Path.{ap}
 use native.Mathlib.Omega.{arith}
 use lib.Dec.{eqb}

@@ -1,3 +1,4 @@
+-- `fresh::clear` meets its contract.
 use mathlib.Core.Path.{_≡_}
 use mathlib.Core.List.{_++_}
 use Prim.Native.Nat.{_-_, _≤_}

@@ -1,3 +1,4 @@
+-- `fresh::make` meets its contract.
 use mathlib.Core.Path.{_∙_}
 use native.Mathlib.Omega.{arith}
 use Rattle.fresh.proofs.Laws.{servers-first, databases-first, clients-first, parties-inside, made}

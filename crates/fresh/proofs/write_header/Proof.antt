@@ -1,3 +1,4 @@
+-- `fresh::write_header` meets its contract.
 use native.Mathlib.Omega.{arith}
 use lib.ListN.{length-set}
 use borrow.Author.Needs.{needs}

@@ -1,3 +1,4 @@
+-- `gates::clean` meets its contract.
 use mathlib.Core.Path.{sym, _∙_}
 use borrow.Author.Tests.{eq-eqb, ne-eqb, not-true, not-false}
 use Rattle.gates.proofs.Laws.{positive, nought}

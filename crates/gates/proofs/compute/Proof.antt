@@ -1,3 +1,4 @@
+-- `gates::compute` meets its contract.
 use borrow.Author.Tests.{eq-eqb, ne-eqb}
 use Rattle.gates.proofs.compute.Statement.{statement}
 use Rattle.gates.proofs.compute.Tie as tie

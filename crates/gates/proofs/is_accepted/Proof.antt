@@ -1,3 +1,4 @@
+-- `gates::is_accepted` meets its contract.
 use borrow.Author.Needs.{needs}
 use Rattle.gates.proofs.is_accepted.Statement.{statement}
 use Rattle.gates.proofs.is_accepted.Tie as tie

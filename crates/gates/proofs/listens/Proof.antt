@@ -1,3 +1,4 @@
+-- `gates::listens` meets its contract.
 use borrow.Author.Tests.{eq-eqb, ne-eqb}
 use Rattle.gates.proofs.Laws.{positive, nought}
 use borrow.Author.Needs.{needs}

@@ -1,3 +1,4 @@
+-- `gates::load` meets its contract.
 use borrow.Author.Needs.{needs}
 use Rattle.gates.proofs.load.Statement.{statement}
 use Rattle.gates.proofs.load.Tie as tie

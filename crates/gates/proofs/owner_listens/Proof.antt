@@ -1,3 +1,4 @@
+-- `gates::owner_listens` meets its contract.
 use borrow.Author.Tests.{eq-eqb, ne-eqb}
 use borrow.Author.Needs.{needs}
 use Rattle.gates.proofs.owner_listens.Statement.{statement}

@@ -1,3 +1,4 @@
+-- `gates::prepare` meets its contract.
 use Rattle.gates.proofs.Laws.{positive, nought}
 use Rattle.gates.proofs.prepare.Statement.{statement}
 use Rattle.gates.proofs.prepare.Tie as tie

@@ -1,3 +1,4 @@
+-- `gates::ready` meets its contract.
 use borrow.Author.Tests.{eq-eqb, ne-eqb}
 use Rattle.gates.proofs.ready.Statement.{statement}
 use Rattle.gates.proofs.ready.Tie as tie

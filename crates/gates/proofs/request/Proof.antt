@@ -1,3 +1,4 @@
+-- `gates::request` meets its contract.
 use mathlib.Core.Path.{sym, _∙_}
 use borrow.Author.Needs.{needs}
 use Rattle.gates.proofs.request.Statement.{statement}

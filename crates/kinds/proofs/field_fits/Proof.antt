@@ -1,3 +1,4 @@
+-- `kinds::field_fits` meets its contract.
 use mathlib.Core.Path.{sym}
 use borrow.Author.Tests.{eq-eqb, ne-eqb}
 use Rattle.kinds.proofs.Laws.{zero-outside, inside-most}

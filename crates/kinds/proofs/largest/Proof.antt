@@ -1,3 +1,4 @@
+-- `kinds::largest` meets its contract.
 use mathlib.Core.Path.{sym}
 use native.Mathlib.Omega.{arith}
 use Rattle.kinds.proofs.Laws.{largest-rest}

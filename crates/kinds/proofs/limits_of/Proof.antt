@@ -1,3 +1,4 @@
+-- `kinds::limits_of` meets its contract.
 use mathlib.Core.Path.{refl}
 use Rattle.kinds.specs.Limits.{limitsAt}
 use borrow.Author.Needs.{needs}

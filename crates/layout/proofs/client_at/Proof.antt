@@ -1,3 +1,4 @@
+-- `layout::client_at` meets its contract.
 use Rattle.table.specs.Layout.{place}
 use borrow.Author.Needs.{needs}
 use Rattle.layout.proofs.client_at.Statement.{statement}

@@ -1,3 +1,4 @@
+-- `layout::count_fits` meets its contract.
 use borrow.Author.Tests.{le-leb, lt-leb}
 use Rattle.layout.proofs.count_fits.Statement.{statement}
 use Rattle.layout.proofs.count_fits.Tie as tie

@@ -1,3 +1,4 @@
+-- `layout::database_at` meets its contract.
 use Rattle.table.specs.Layout.{place}
 use borrow.Author.Needs.{needs}
 use Rattle.layout.proofs.database_at.Statement.{statement}

@@ -1,3 +1,4 @@
+-- `layout::row_start` meets its contract.
 use native.Mathlib.Omega.{arith}
 use Rattle.table.specs.Layout.{rowsBefore, rowStart}
 use Rattle.layout.proofs.Laws.{clients-before, cells-before}

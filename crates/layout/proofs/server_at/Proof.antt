@@ -1,3 +1,4 @@
+-- `layout::server_at` meets its contract.
 use mathlib.Core.Path.{refl}
 use Rattle.table.specs.Layout.{place}
 use borrow.Author.Needs.{needs}

@@ -1,3 +1,4 @@
+-- `layout::table_length` meets its contract.
 use native.Mathlib.Omega.{arith}
 use Rattle.table.specs.Layout.{tableLength}
 use Rattle.layout.proofs.Laws.{rows-most, cells-most}

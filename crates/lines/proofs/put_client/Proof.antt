@@ -1,3 +1,4 @@
+-- `lines::put_client` meets its contract.
 use Rattle.text.proofs.Pages.{follows}
 use Rattle.lines.specs.Lines.{clientText}
 use borrow.Author.Needs.{needs}

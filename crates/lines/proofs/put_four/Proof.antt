@@ -1,3 +1,4 @@
+-- `lines::put_four` meets its contract.
 use Rattle.text.proofs.Pages.{follows}
 use Rattle.text.specs.Writing.{line}
 use borrow.Author.Needs.{needs}

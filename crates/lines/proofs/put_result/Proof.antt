@@ -1,3 +1,4 @@
+-- `lines::put_result` meets its contract.
 use Rattle.text.proofs.Pages.{follows}
 use Rattle.text.specs.Writing.{line}
 use Rattle.lines.specs.Lines.{resultText}

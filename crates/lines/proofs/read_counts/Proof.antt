@@ -1,3 +1,4 @@
+-- `lines::read_counts` meets its contract.
 use Rattle.lines.specs.Lines.{readCounts}
 use Rattle.lines.proofs.Laws.{found, malformed}
 use borrow.Author.Needs.{needs}

@@ -1,3 +1,4 @@
+-- `lines::read_event` meets its contract.
 use Rattle.lines.specs.Lines.{readEvent}
 use Rattle.lines.proofs.Laws.{found, malformed}
 use borrow.Author.Needs.{needs}

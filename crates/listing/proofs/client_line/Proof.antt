@@ -1,3 +1,4 @@
+-- `listing::client_line` meets its contract.
 use mathlib.Core.Path.{sym}
 use native.Mathlib.Omega.{arith}
 use Rattle.layout.proofs.Laws.{client-inside}

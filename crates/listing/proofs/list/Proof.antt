@@ -1,3 +1,4 @@
+-- `listing::list` meets its contract.
 use lib.ListN.{length-take}
 use mathlib.Core.Path.{sym, _∙_}
 use native.Mathlib.Omega.{arith}

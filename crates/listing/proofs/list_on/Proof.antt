@@ -1,3 +1,4 @@
+-- `listing::list_on` meets its contract.
 use Rattle.listing.proofs.Whole.{set-up-fresh, parts-listed}
 use borrow.Author.Needs.{needs}
 use Rattle.listing.proofs.list_on.Statement.{statement}

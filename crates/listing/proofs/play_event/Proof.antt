@@ -1,3 +1,4 @@
+-- `listing::play_event` meets its contract.
 use mathlib.Core.Path.{sym}
 use borrow.Author.Needs.{needs}
 use Rattle.listing.proofs.play_event.Statement.{statement}

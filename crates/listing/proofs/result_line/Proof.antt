@@ -1,3 +1,4 @@
+-- `listing::result_line` meets its contract.
 use mathlib.Core.Path.{ap, _∙_}
 use Rattle.text.specs.Writing.{puts}
 use native.Mathlib.Omega.{arith}

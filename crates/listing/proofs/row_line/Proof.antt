@@ -1,3 +1,4 @@
+-- `listing::row_line` meets its contract.
 use mathlib.Core.Path.{sym}
 use borrow.Author.Tests.{eq-eqb, ne-eqb}
 use Rattle.text.specs.Writing.{puts}

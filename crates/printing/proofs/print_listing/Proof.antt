@@ -1,3 +1,4 @@
+-- `printing::print_listing` meets its contract.
 use mathlib.Core.Path.{sym}
 use native.Mathlib.Omega.{arith}
 use lib.Seq.{length-take-le}

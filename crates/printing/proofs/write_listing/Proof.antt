@@ -1,3 +1,4 @@
+-- `printing::write_listing` meets its contract.
 use mathlib.Core.Path.{sym}
 use lib.Seq.{length-take-le}
 use borrow.Author.Needs.{needs}

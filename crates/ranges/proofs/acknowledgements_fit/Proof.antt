@@ -1,3 +1,4 @@
+-- `ranges::acknowledgements_fit` meets its contract.
 use mathlib.Core.Path.{sym}
 use Prim.Native.Nat.{_+_, _-_}
 use native.Mathlib.Omega.{arith}

@@ -1,3 +1,4 @@
+-- `ranges::in_range` meets its contract.
 use mathlib.Core.Path.{sym, _∙_}
 use borrow.Author.Tests.{not-true, not-false}
 use Rattle.protocol.specs.Numbers.{inRange}

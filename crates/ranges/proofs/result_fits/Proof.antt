@@ -1,3 +1,4 @@
+-- `ranges::result_fits` meets its contract.
 use mathlib.Core.Path.{_∙_}
 use native.Mathlib.Omega.{arith}
 use Rattle.layout.proofs.Laws.{row-inside}

@@ -1,3 +1,4 @@
+-- `ranges::row_fits` meets its contract.
 use mathlib.Core.Path.{sym, _∙_}
 use borrow.Author.Tests.{not-true, not-false}
 use Rattle.lists.proofs.Choice.{and-true}

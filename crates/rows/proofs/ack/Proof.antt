@@ -1,3 +1,4 @@
+-- `rows::ack` meets its contract.
 use mathlib.Core.Path.{sym, ap, _∙_}
 use native.Mathlib.Omega.{arith}
 use Rattle.lists.proofs.Choice.{in-inside}

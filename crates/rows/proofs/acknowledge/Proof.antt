@@ -1,3 +1,4 @@
+-- `rows::acknowledge` meets its contract.
 use native.Mathlib.Omega.{arith}
 use Rattle.lists.proofs.Choice.{in-inside}
 use Rattle.protocol.specs.Cells.{acked}

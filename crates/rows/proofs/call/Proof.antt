@@ -1,3 +1,4 @@
+-- `rows::call` meets its contract.
 use borrow.Author.Needs.{needs}
 use Rattle.rows.proofs.call.Statement.{statement}
 use Rattle.rows.proofs.call.Tie as tie

@@ -1,3 +1,4 @@
+-- `rows::call_all` meets its contract.
 use borrow.Author.Needs.{needs}
 use Rattle.rows.proofs.call_all.Statement.{statement}
 use Rattle.rows.proofs.call_all.Tie as tie

@@ -1,3 +1,4 @@
+-- `rows::cast` meets its contract.
 use native.Mathlib.Omega.{arith}
 use lib.ListN.{length-set}
 use mathlib.Core.Path.{sym, _∙_}

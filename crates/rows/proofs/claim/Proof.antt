@@ -1,3 +1,4 @@
+-- `rows::claim` meets its contract.
 use Rattle.rows.proofs.Laws.{lent-claim}
 use borrow.Author.Needs.{needs}
 use Rattle.rows.proofs.claim.Statement.{statement}

@@ -1,3 +1,4 @@
+-- `rows::clean` meets its contract.
 use Rattle.table.specs.Table.{rowView}
 use Rattle.rows.proofs.Laws.{went, stayed}
 use Rattle.protocol.specs.Rules.{cleanRule}

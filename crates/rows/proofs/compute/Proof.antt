@@ -1,3 +1,4 @@
+-- `rows::compute` meets its contract.
 use mathlib.Core.Path.{refl}
 use Rattle.table.specs.Table.{rowView}
 use Rattle.rows.proofs.Laws.{went, stayed}

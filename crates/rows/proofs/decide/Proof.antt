@@ -1,3 +1,4 @@
+-- `rows::decide` meets its contract.
 use mathlib.Core.Path.{_∙_}
 use Rattle.table.specs.Table.{rowView}
 use Rattle.rows.proofs.Laws.{went, stayed}

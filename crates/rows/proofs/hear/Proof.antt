@@ -1,3 +1,4 @@
+-- `rows::hear` meets its contract.
 use native.Mathlib.Omega.{arith}
 use lib.ListN.{length-set}
 use Rattle.rows.proofs.Laws.{kept}

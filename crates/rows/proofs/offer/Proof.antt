@@ -1,3 +1,4 @@
+-- `rows::offer` meets its contract.
 use Rattle.rows.proofs.Laws.{lent-offer}
 use borrow.Author.Needs.{needs}
 use Rattle.rows.proofs.offer.Statement.{statement}

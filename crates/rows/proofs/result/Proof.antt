@@ -1,3 +1,4 @@
+-- `rows::result` meets its contract.
 use Rattle.protocol.specs.Cells.{outcome, known}
 use Rattle.table.specs.Table.{rowView}
 use mathlib.Core.Path.{sym, ap, _∙_}

@@ -1,3 +1,4 @@
+-- `rows::says` meets its contract.
 use mathlib.Core.Path.{sym}
 use Rattle.lists.proofs.Choice.{and-false, and-true}
 use Rattle.rows.proofs.says.Statement.{statement}

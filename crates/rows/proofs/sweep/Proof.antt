@@ -1,3 +1,4 @@
+-- `rows::sweep` meets its contract.
 use mathlib.Core.Path.{ap, _∙_}
 use native.Mathlib.Omega.{arith}
 use Rattle.registers.specs.Register.{holding}

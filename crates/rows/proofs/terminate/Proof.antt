@@ -1,3 +1,4 @@
+-- `rows::terminate` meets its contract.
 use borrow.Author.Needs.{needs}
 use Rattle.rows.proofs.terminate.Statement.{statement}
 use Rattle.rows.proofs.terminate.Tie as tie

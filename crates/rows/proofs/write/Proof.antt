@@ -1,3 +1,4 @@
+-- `rows::write` meets its contract.
 use Rattle.gates.specs.Gates.{asRow}
 use native.Mathlib.Omega.{arith}
 use Rattle.rows.proofs.Laws.{verdict-decides}

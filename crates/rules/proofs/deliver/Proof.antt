@@ -1,3 +1,4 @@
+-- `rules::deliver` meets its contract.
 use native.Mathlib.Omega.{arith}
 use lib.ListN.{set, length-set}
 use Rattle.rules.proofs.Laws.{client-room, phase-at, delivered-at}

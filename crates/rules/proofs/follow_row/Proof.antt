@@ -1,3 +1,4 @@
+-- `rules::follow_row` meets its contract.
 use Rattle.rules.proofs.Laws.{at-kind, numbered, no-row}
 use borrow.Author.Needs.{needs}
 use Rattle.rules.proofs.follow_row.Statement.{statement}

@@ -1,3 +1,4 @@
+-- `rules::recover` meets its contract.
 use mathlib.Core.Path.{sym, ap, _∙_}
 use native.Mathlib.Omega.{arith}
 use lib.ListN.{set, length-set}

@@ -1,3 +1,4 @@
+-- `runner::vrolkant_set_up` meets its contract.
 use mathlib.Core.Path.{ap, _∙_}
 use borrow.Author.Needs.{needs}
 use Rattle.runner.proofs.vrolkant_set_up.Statement.{statement}

@@ -1,3 +1,4 @@
+-- `runner::vrolkant_table_length` meets its contract.
 use mathlib.Core.Path.{sym, _∙_}
 use borrow.Author.Tests.{not-true, not-false}
 use borrow.Author.Needs.{needs}

@@ -1,3 +1,4 @@
+-- `text::is_digit` meets its contract.
 use borrow.Author.Tests.{lt-leb, le-leb}
 use Rattle.text.proofs.is_digit.Statement.{statement}
 use Rattle.text.proofs.is_digit.Tie as tie

@@ -1,3 +1,4 @@
+-- `text::put` meets its contract.
 use Rattle.text.proofs.Pages.{put-room, put-full}
 use borrow.Author.Needs.{needs}
 use Rattle.text.proofs.put.Statement.{statement}

@@ -1,3 +1,4 @@
+-- `text::put_digit` meets its contract.
 use Rattle.text.specs.Writing.{puts}
 use borrow.Author.Tests.{lt-leb, le-leb}
 use borrow.Author.Needs.{needs}

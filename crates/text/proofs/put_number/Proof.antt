@@ -1,3 +1,4 @@
+-- `text::put_number` meets its contract.
 use mathlib.Core.Path.{_∙_}
 use mathlib.Core.List.{append-assoc}
 use Rattle.text.specs.Writing.{decimal}

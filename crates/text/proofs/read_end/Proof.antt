@@ -1,3 +1,4 @@
+-- `text::read_end` meets its contract.
 use Rattle.text.proofs.Digits.{ended, ended-otherwise, ended-nowhere}
 use borrow.Author.Needs.{needs}
 use Rattle.text.proofs.read_end.Statement.{statement}

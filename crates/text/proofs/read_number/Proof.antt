@@ -1,3 +1,4 @@
+-- `text::read_number` meets its contract.
 use mathlib.Core.Path.{sym, _∙_}
 use borrow.Author.Tests.{not-true, not-false}
 use Rattle.text.proofs.Digits.{no-byte, no-digit, lone-zero, too-large, several}
