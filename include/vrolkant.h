@@ -23,6 +23,31 @@ enum {
     VROLKANT_MUST_NOT = 7      /* the event must not happen now */
 };
 
+/* The kinds of event, each with the fields that it uses; the others are 0. */
+enum {
+    VROLKANT_ISSUE = 1,              /* client, value: the request */
+    VROLKANT_TIMEOUT = 2,            /* client */
+    VROLKANT_REQUEST_ARRIVES = 3,    /* client, attempt, server */
+    VROLKANT_COMPUTE = 4,            /* client, attempt, server, value: what was computed */
+    VROLKANT_PREPARE_ARRIVES = 5,    /* client, attempt, database, value: VROLKANT_YES or VROLKANT_NO */
+    VROLKANT_VOTE_ARRIVES = 6,       /* client, attempt, server, database */
+    VROLKANT_READY_ARRIVES = 7,      /* client, attempt, server, database */
+    VROLKANT_WRITE = 8,              /* client, attempt, server */
+    VROLKANT_SUSPECT = 9,            /* server, value: the server suspected */
+    VROLKANT_TRUST = 10,             /* server, value: the server trusted again */
+    VROLKANT_CLEAN = 11,             /* client, attempt, server */
+    VROLKANT_DECIDE_ARRIVES = 12,    /* client, attempt, server: the sender, database */
+    VROLKANT_ACK_ARRIVES = 13,       /* client, attempt, server, database */
+    VROLKANT_RESULT_ARRIVES = 14,    /* client, attempt, server: the sender */
+    VROLKANT_SERVER_CRASHES = 15,    /* server */
+    VROLKANT_DATABASE_CRASHES = 16,  /* database */
+    VROLKANT_CLIENT_CRASHES = 17,    /* client */
+    VROLKANT_DATABASE_RECOVERS = 18  /* database */
+};
+
+/* What a database says when its prepare arrives. */
+enum { VROLKANT_YES = 1, VROLKANT_NO = 2 };
+
 /* An event record. A field that its kind does not use is 0. */
 struct vrolkant_event {
     uint16_t kind;

@@ -8,34 +8,19 @@
 /* The setup of L1. */
 enum { CLIENTS = 1, SERVERS = 2, DATABASES = 1, ATTEMPTS = 2 };
 
-/* The kinds that L1 uses. */
-enum {
-    ISSUE = 1,
-    REQUEST_ARRIVES = 3,
-    COMPUTE = 4,
-    PREPARE_ARRIVES = 5,
-    SUSPECT = 9,
-    CLEAN = 11,
-    DECIDE_ARRIVES = 12,
-    ACK_ARRIVES = 13,
-    RESULT_ARRIVES = 14
-};
-
-enum { VOTE_YES = 1 };
-
 /* Fields are named, so that those a kind does not use are 0, as they have to be. */
 static const struct vrolkant_event events[] = {
-    {.kind = ISSUE, .client = 1, .value = 700},
-    {.kind = REQUEST_ARRIVES, .client = 1, .attempt = 1, .server = 1},
-    {.kind = COMPUTE, .client = 1, .attempt = 1, .server = 1, .value = 55},
-    {.kind = SUSPECT, .server = 2, .value = 1},
-    {.kind = CLEAN, .client = 1, .attempt = 1, .server = 2},
-    {.kind = DECIDE_ARRIVES, .client = 1, .attempt = 1, .server = 2, .database = 1},
-    {.kind = PREPARE_ARRIVES, .client = 1, .attempt = 1, .database = 1, .value = VOTE_YES},
-    {.kind = ACK_ARRIVES, .client = 1, .attempt = 1, .server = 2, .database = 1},
-    {.kind = RESULT_ARRIVES, .client = 1, .attempt = 1, .server = 2},
+    {.kind = VROLKANT_ISSUE, .client = 1, .value = 700},
+    {.kind = VROLKANT_REQUEST_ARRIVES, .client = 1, .attempt = 1, .server = 1},
+    {.kind = VROLKANT_COMPUTE, .client = 1, .attempt = 1, .server = 1, .value = 55},
+    {.kind = VROLKANT_SUSPECT, .server = 2, .value = 1},
+    {.kind = VROLKANT_CLEAN, .client = 1, .attempt = 1, .server = 2},
+    {.kind = VROLKANT_DECIDE_ARRIVES, .client = 1, .attempt = 1, .server = 2, .database = 1},
+    {.kind = VROLKANT_PREPARE_ARRIVES, .client = 1, .attempt = 1, .database = 1, .value = VROLKANT_YES},
+    {.kind = VROLKANT_ACK_ARRIVES, .client = 1, .attempt = 1, .server = 2, .database = 1},
+    {.kind = VROLKANT_RESULT_ARRIVES, .client = 1, .attempt = 1, .server = 2},
     /* the client went on to attempt 2 and sent it to server 1 alone: this one is refused */
-    {.kind = REQUEST_ARRIVES, .client = 1, .attempt = 2, .server = 2},
+    {.kind = VROLKANT_REQUEST_ARRIVES, .client = 1, .attempt = 2, .server = 2},
 };
 
 enum { EVENT_COUNT = sizeof events / sizeof events[0] };

@@ -2,7 +2,7 @@
 
 mod vrolkant;
 
-use vrolkant::{Counts, Event, Ran, Refusal, Table};
+use vrolkant::{kind, Counts, Event, Ran, Refusal, Table};
 
 /// The setup of L1.
 const COUNTS: Counts = Counts {
@@ -11,19 +11,6 @@ const COUNTS: Counts = Counts {
     databases: 1,
     attempts: 2,
 };
-
-// The kinds that L1 uses.
-const ISSUE: u16 = 1;
-const REQUEST_ARRIVES: u16 = 3;
-const COMPUTE: u16 = 4;
-const PREPARE_ARRIVES: u16 = 5;
-const SUSPECT: u16 = 9;
-const CLEAN: u16 = 11;
-const DECIDE_ARRIVES: u16 = 12;
-const ACK_ARRIVES: u16 = 13;
-const RESULT_ARRIVES: u16 = 14;
-
-const VOTE_YES: u16 = 1;
 
 // How many cells each part of the table has; the parts lie in this order.
 const HEADER_CELLS: usize = 4;
@@ -51,17 +38,17 @@ const COMMITTED: usize = 12;
 
 /// The events of L1: kind, client, attempt, server, database, value.
 const EVENTS: [Event; 10] = [
-    Event::of([ISSUE, 1, 0, 0, 0, 700]),
-    Event::of([REQUEST_ARRIVES, 1, 1, 1, 0, 0]),
-    Event::of([COMPUTE, 1, 1, 1, 0, 55]),
-    Event::of([SUSPECT, 0, 0, 2, 0, 1]),
-    Event::of([CLEAN, 1, 1, 2, 0, 0]),
-    Event::of([DECIDE_ARRIVES, 1, 1, 2, 1, 0]),
-    Event::of([PREPARE_ARRIVES, 1, 1, 0, 1, VOTE_YES]),
-    Event::of([ACK_ARRIVES, 1, 1, 2, 1, 0]),
-    Event::of([RESULT_ARRIVES, 1, 1, 2, 0, 0]),
+    Event::of([kind::ISSUE, 1, 0, 0, 0, 700]),
+    Event::of([kind::REQUEST_ARRIVES, 1, 1, 1, 0, 0]),
+    Event::of([kind::COMPUTE, 1, 1, 1, 0, 55]),
+    Event::of([kind::SUSPECT, 0, 0, 2, 0, 1]),
+    Event::of([kind::CLEAN, 1, 1, 2, 0, 0]),
+    Event::of([kind::DECIDE_ARRIVES, 1, 1, 2, 1, 0]),
+    Event::of([kind::PREPARE_ARRIVES, 1, 1, 0, 1, kind::YES]),
+    Event::of([kind::ACK_ARRIVES, 1, 1, 2, 1, 0]),
+    Event::of([kind::RESULT_ARRIVES, 1, 1, 2, 0, 0]),
     // the client went on to attempt 2 and sent it to server 1 alone: this one is refused
-    Event::of([REQUEST_ARRIVES, 1, 2, 2, 0, 0]),
+    Event::of([kind::REQUEST_ARRIVES, 1, 2, 2, 0, 0]),
 ];
 
 /// Prints each event's place and number, and answers as `Table::run` does.

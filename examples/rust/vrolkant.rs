@@ -44,6 +44,32 @@ mod archive {
     }
 }
 
+/// The kinds of event, and what a database says when its prepare arrives.
+#[allow(dead_code)] // a program need not use them all
+pub mod kind {
+    pub const ISSUE: u16 = 1;
+    pub const TIMEOUT: u16 = 2;
+    pub const REQUEST_ARRIVES: u16 = 3;
+    pub const COMPUTE: u16 = 4;
+    pub const PREPARE_ARRIVES: u16 = 5;
+    pub const VOTE_ARRIVES: u16 = 6;
+    pub const READY_ARRIVES: u16 = 7;
+    pub const WRITE: u16 = 8;
+    pub const SUSPECT: u16 = 9;
+    pub const TRUST: u16 = 10;
+    pub const CLEAN: u16 = 11;
+    pub const DECIDE_ARRIVES: u16 = 12;
+    pub const ACK_ARRIVES: u16 = 13;
+    pub const RESULT_ARRIVES: u16 = 14;
+    pub const SERVER_CRASHES: u16 = 15;
+    pub const DATABASE_CRASHES: u16 = 16;
+    pub const CLIENT_CRASHES: u16 = 17;
+    pub const DATABASE_RECOVERS: u16 = 18;
+
+    pub const YES: u16 = 1;
+    pub const NO: u16 = 2;
+}
+
 /// The counts of a setup: clients, servers and databases from 1 to 8, attempts from 1 to 16.
 #[derive(Clone, Copy)]
 pub struct Counts {
