@@ -4,12 +4,12 @@ use Prim.Native.Nat.{ℕ, zero, suc}
 use Rattle.protocol.specs.declared.Event.{Event}
 use Rattle.text.specs.Writing.{line}
 use Rattle.lines.specs.Lines.{eventText, EventFits}
-use Rattle.listing.specs.Script.{Script, ended, event}
+use Rattle.listing.specs.Script.{Script, event}
 
--- records one after another, then the end
-abbrev pub scriptOf : List Event → Script
-scriptOf [] = ended
-scriptOf (e ∷ list) = event e (scriptOf list)
+-- records one after another, then what follows them
+abbrev pub scriptOf : List Event → Script → Script
+scriptOf [] behind = behind
+scriptOf (e ∷ list) behind = event e (scriptOf list behind)
 
 -- their lines, and that each is one
 abbrev pub texts : List Event → List ℕ

@@ -15,7 +15,7 @@ use Rattle.protocol.specs.declared.Event.{Event as Record}
 use Rattle.protocol.specs.Numbers.{countTests, inRange}
 use Rattle.table.specs.Layout.{tableLength}
 use Rattle.table.specs.Table.{countsOf, view, sizeTests, sound, freshTable}
-use Rattle.table.specs.Jobs.{Done, setUpNumber, setUp, tableNumber, applied, Ran, oneMore, stopped, ran}
+use Rattle.table.specs.Jobs.{setUpNumber, setUp, tableNumber, applied, oneMore, stopped, ran}
 use Rattle.table.specs.Applies.{Applies}
 use Rattle.table.proofs.Fresh as fresh
 use Rattle.table.proofs.Exactly as exactly
@@ -145,14 +145,3 @@ event-composes t list r accepted z =
       refusal ∙ ap (λ ends. ends .refusal) one ∙ sound-when cells .1 (sound-kept (after t list) r z),
       left ∙ ap (λ ends. ends .cells) one,
     )
-
--- ---- two outcomes that one contract allows are equal: the contract of each job is an equation, that its outcome is this one
-
-pub one-set-up : (t : List ℕ) (n : Counts) (a b : Done) → a ≡ setUp t n → b ≡ setUp t n → a ≡ b
-one-set-up t n a b first second = first ∙ sym second
-
-pub one-event : (t : List ℕ) (r : Record) (a b : Done) → a ≡ applied t r → b ≡ applied t r → a ≡ b
-one-event t r a b first second = first ∙ sym second
-
-pub one-list : (t : List ℕ) (list : List Record) (a b : Ran) → a ≡ ran t list → b ≡ ran t list → a ≡ b
-one-list t list a b first second = first ∙ sym second

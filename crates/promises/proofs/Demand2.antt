@@ -1,20 +1,29 @@
 -- Demand 2: the accepted events of a list do what the rules say, and what they lead to keeps the paper's A.1 to A.3, V.1 and V.2.
 use mathlib.Core.Path.{_≡_, refl, sym, ap₂, subst}
 use mathlib.Core.List.{List, [], _∷_, map, head-eq-of-cons-eq, tail-eq-of-cons-eq}
+use mathlib.Core.Logic.{_⊎_}
 use Prim.Native.Nat.{ℕ}
+use lib.Dec.{T}
+use lib.ListN.{getD}
 use Rattle.protocol.specs.declared.Counts.{Counts}
 use Rattle.protocol.specs.declared.Event.{Event as Record}
+use Rattle.protocol.specs.Cells.{Name, exists}
 use Rattle.protocol.specs.Events.{Event, recordOf}
 use Rattle.protocol.specs.Rules.{rule}
 use Rattle.protocol.specs.Machine.{next}
 use Rattle.protocol.specs.Agreement.{Agreement}
+use Rattle.protocol.specs.Touched.{MayChange}
+use Rattle.protocol.specs.Finality.{Final}
 use Rattle.protocol.proofs.Records.{one-event}
 use Rattle.protocol.proofs.Agreement.{agreement}
+use Rattle.protocol.proofs.Finality as final
+use Rattle.table.specs.Layout.{place}
 use Rattle.table.specs.Table.{countsOf, view, setAll, freshTable}
 use Rattle.table.specs.Jobs.{applied}
 use Rattle.table.proofs.Runs.{record-does}
+use Rattle.table.proofs.Changes.{changes}
 use Rattle.promises.specs.Lists.{Accepted, after}
-use Rattle.promises.proofs.Transfer.{from-fresh}
+use Rattle.promises.proofs.Transfer.{from-fresh, both-from-fresh}
 
 -- an accepted record is that of an event, and it leaves the cells with what the event's rule writes: as a state, what the machine goes to
 pub accepted-does : (t : List ℕ) (r : Record) → applied t r .number ≡ 0
@@ -24,6 +33,15 @@ pub accepted-does : (t : List ℕ) (r : Record) → applied t r .number ≡ 0
 accepted-does t r accepted =
     let (e, does) = record-does (countsOf t) t r refl accepted in
     (e, does .same, does .writes, does .leads)
+
+-- "only the row of one result and the party cells named below change at an event": each cell is as it was, or one of those
+pub only-these-change : (t : List ℕ) (r : Record) → applied t r .number ≡ 0
+    → (e : Event) × (recordOf e ≡ r)
+    × ((p : ℕ) → (getD (applied t r .cells) p 0 ≡ getD t p 0)
+    ⊎ ((m : Name) × T (exists (countsOf t) m) × MayChange (view (countsOf t) t) e m × (p ≡ place (countsOf t) m)))
+only-these-change t r accepted =
+    let (e, does) = record-does (countsOf t) t r refl accepted in
+    (e, does .same, changes (countsOf t) t r e does)
 
 -- a list of records stands for one list of events only
 pub one-reading : (events others : List Event) → map recordOf events ≡ map recordOf others → events ≡ others
@@ -39,3 +57,10 @@ pub demand-2 : (n : Counts) (list : List Record) → Accepted (freshTable n) lis
 demand-2 n list accepted =
     let (events, stands) = from-fresh n list accepted in
     (events, stands .same, subst (Agreement n events) (sym (stands .leads)) (agreement n events (stands .accepts)))
+
+-- and what such a list has decided is final: it stays so over every accepted continuation of the list
+pub finality : (n : Counts) (list more : List Record) → Accepted (freshTable n) list → Accepted (after (freshTable n) list) more
+    → Final (view n (after (freshTable n) list)) (view n (after (after (freshTable n) list) more))
+finality n list more accepted later =
+    let (before, behind, stand) = both-from-fresh n list more accepted later in
+    rw (stand .first .leads, stand .leads) (final.finality n before behind (stand .first .accepts) (stand .accepts))

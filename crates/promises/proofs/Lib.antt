@@ -4,4 +4,5 @@ pub mod Demand2
 pub mod Demand3
 pub mod Examples
 pub mod Contracts
+pub mod Determinacy
 pub mod Listing

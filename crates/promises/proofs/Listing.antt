@@ -1,8 +1,8 @@
 -- The listing: what is read of an input, what becomes of its first line, that it prints what the list job answers, and that all of it is printed.
 use mathlib.Core.Logic.{_↔_}
-use mathlib.Core.Path.{_≡_}
+use mathlib.Core.Path.{_≡_, refl}
 use mathlib.Core.Bool.{true, false}
-use mathlib.Core.List.{List, [], _∷_, _++_}
+use mathlib.Core.List.{List, [], _∷_, _++_, append-nil}
 use mathlib.Core.Option.{none, some}
 use Prim.Native.Nat.{ℕ, _≤_, _<_, min}
 use native.Mathlib.Omega.{arith}
@@ -10,12 +10,14 @@ use lib.Dec.{T}
 use lib.ListN.{length, take}
 use lib.Seq.{take-all, take-append-seam}
 use Rattle.lists.specs.Tests.{every}
+use Rattle.lists.proofs.Choice.{true-T}
 use Rattle.protocol.specs.declared.Counts.{Counts}
 use Rattle.protocol.specs.declared.Event.{Event as Record}
 use Rattle.protocol.specs.Numbers.{countTests}
 use Rattle.table.specs.Table.{view, sound, freshTable}
 use Rattle.table.specs.Jobs.{ran}
 use Rattle.table.proofs.Soundness as soundness
+use Rattle.table.proofs.Fresh.{fresh-sound}
 use Rattle.text.specs.Writing.{decimal, line, over}
 use Rattle.text.specs.Reading.{most, isDigit, readNumber}
 use Rattle.text.proofs.Inverse.{read-written, written-read}
@@ -28,7 +30,8 @@ use Rattle.listing.proofs.Script.{script-end, script-malformed, script-event}
 use Rattle.listing.proofs.Answered as answers
 use Rattle.listing.proofs.Whole as whole
 use Rattle.listing.proofs.Length as room
-use Rattle.promises.specs.Lists.{after}
+use Rattle.promises.specs.Lists.{Accepted, after}
+use Rattle.promises.proofs.Demand1.{zero-at-end}
 
 -- ---- "all are decimals up to 65535 (anything else is malformed), one space between, no leading zeros, each line ended by a newline"
 
@@ -83,8 +86,8 @@ module _ (input : List ℕ) where
 -- the clients and results printed are those of the table that it leaves, so that demands 2 and 3 speak of them
 
 pub list-job-printed : (t : List ℕ) → T (sound t) → (list : List Record) (place : ℕ)
-    → (played place t (scriptOf list) .text ≡ answerLines place (ran t list .accepted) (ran t list .refusal))
-    × (played place t (scriptOf list) .cells ≡ after t list)
+    → (played place t (scriptOf list ended) .text ≡ answerLines place (ran t list .accepted) (ran t list .refusal))
+    × (played place t (scriptOf list ended) .cells ≡ after t list)
 list-job-printed t is-sound list place = answers.answered list t place (soundness.sound-when t .1 is-sound)
 
 -- so for every setup in range and every list of records whose text is not too long: the answers of the list job from the fresh table, then the clients
@@ -92,7 +95,23 @@ list-job-printed t is-sound list place = answers.answered list t place (soundnes
 pub records-listed : (n : Counts) (list : List Record) → every (countTests n) ≡ true → RecordsFit list → length (countsText n ++ texts list) ≤ longest
     → (let answer = ran (freshTable n) list in
     listing (countsText n ++ texts list) ≡ answerLines 1 (answer .accepted) (answer .refusal) ++ ending n (view n (answer .cells)))
-records-listed = answers.records-listed
+records-listed n list tests fit long =
+    rw (append-nil (texts list)) at (answers.records-end n list [] tests fit (rw (append-nil (texts list)) long) refl)
+
+-- "up to the first refusal (8 included)": where a malformed line follows records that are all accepted, its line is `k 8`, and the clients and results of the
+-- table that they leave follow; where one of the records is refused, nothing behind it is looked at
+module _ (n : Counts) (list : List Record) (rest : List ℕ) (tests : every (countTests n) ≡ true) (fit : RecordsFit list)
+    (long : length (countsText n ++ (texts list ++ rest)) ≤ longest) where
+  pub malformed-listed : Accepted (freshTable n) list → 1 ≤ length rest → readEvent rest ≡ none
+      → listing (countsText n ++ (texts list ++ rest)) ≡ answerLines 1 (length list) 8 ++ ending n (view n (after (freshTable n) list))
+  malformed-listed accepted more bad =
+      let whole = zero-at-end (freshTable n) list (soundness.sound-when (freshTable n) .0 (fresh-sound n (true-T (every (countTests n)) tests))) .0 accepted in
+      rw whole at (answers.malformed-behind n list rest tests fit long more bad accepted)
+
+  pub refused-listed : (Accepted (freshTable n) list → ⊥)
+      → (let answer = ran (freshTable n) list in
+      listing (countsText n ++ (texts list ++ rest)) ≡ answerLines 1 (answer .accepted) (answer .refusal) ++ ending n (view n (answer .cells)))
+  refused-listed = answers.refused-before n list rest tests fit long
 
 -- ---- all of it is printed: no listing is longer than the room that the program lends
 

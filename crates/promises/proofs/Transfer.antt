@@ -9,6 +9,7 @@ use Rattle.protocol.specs.declared.Event.{Event as Record}
 use Rattle.protocol.specs.Cells.{Name, State, fresh, clientUp, databaseUp, phase, attempt, row, owner, known}
 use Rattle.protocol.specs.Events.{Event, recordOf, suspect, trust, clean, decide-arrives, ack-arrives, result-arrives, server-crashes}
 use Rattle.protocol.specs.Numbers.{refusal}
+use Rattle.protocol.specs.Machine as machines
 use Rattle.protocol.specs.Machine.{next}
 use Rattle.protocol.specs.Progress as machine
 use Rattle.table.specs.Table.{view, freshTable}
@@ -16,7 +17,7 @@ use Rattle.table.specs.Jobs.{applied}
 use Rattle.table.proofs.Fresh.{fresh-counts, fresh-view}
 use Rattle.table.proofs.Runs.{TableOf, event-does, Stands, stands}
 use Rattle.promises.specs.Lists.{Accepted, after}
-use Rattle.promises.specs.Progress.{Never, Then, ThenEach, Settled, Freed, Decided, Progress}
+use Rattle.promises.specs.Progress.{Never, Then, ThenEach, Remembers, Settled, Freed, Decided, Progress}
 
 -- the events that a list accepted from a fresh table stands for
 pub from-fresh : (n : Counts) (list : List Record) → Accepted (freshTable n) list
@@ -24,6 +25,28 @@ pub from-fresh : (n : Counts) (list : List Record) → Accepted (freshTable n) l
 from-fresh n list accepted =
     subst (λ s. (events : List Event) × Stands n s list (after (freshTable n) list) events) (fresh-view n)
     (stands n list (freshTable n) (fresh-counts n) accepted)
+
+-- and those of a list accepted from the table that it leaves
+pub record StandBoth (n : Counts) (list more : List Record) (before behind : List Event) : Type 0 where
+  pub first : Stands n (fresh n) list (after (freshTable n) list) before
+  pub same : map recordOf behind ≡ more
+  pub accepts : machines.Accepted n (machines.run n (fresh n) before) behind
+  pub leads : view n (after (after (freshTable n) list) more) ≡ machines.run n (machines.run n (fresh n) before) behind
+
+pub both-from-fresh : (n : Counts) (list more : List Record) → Accepted (freshTable n) list → Accepted (after (freshTable n) list) more
+    → (before behind : List Event) × StandBoth n list more before behind
+both-from-fresh n list more accepted later =
+    let (before, first) = from-fresh n list accepted in
+    let (behind, second) = stands n more (after (freshTable n) list) (first .table .counts) later in (
+      before,
+      behind,
+      record {
+        first = first;
+        same = second .same;
+        accepts = subst (λ s. machines.Accepted n s behind) (first .leads) (second .accepts);
+        leads = second .leads ∙ ap (λ s. machines.run n s behind) (first .leads);
+      },
+    )
 
 -- ---- plans: each part of one, as it is said of the machine and of tables, and the way from the first to the second
 
@@ -127,14 +150,21 @@ module _ (n : Counts) where
       (andEach (λ d. isUp (databaseUp d)) (decide-arrives c k i) ds (decides c k i)))
       .carries t table (progress c k i is-client is-attempt is-server owned other up ds covers)
 
-  -- an acknowledgement that is due, and then known
+  -- an acknowledgement that is due, and then remembered
+  abbrev remembers : (c k i d : ℕ) → Goal
+  remembers c k i d = record {
+    ofState = machine.Remembers n c k i d;
+    ofTable = Remembers n c k i d;
+    carries = λ t table knows more accepted uncrashed.
+        let (events, there) = stands n more t (table .counts) accepted in
+        let still = knows events (there .accepts) (never (server-crashes i) events (subst (Never (server-crashes i)) (sym (there .same)) uncrashed)) in
+        subst (λ s. T (has (s (row c k (known i))) d)) (sym (there .leads)) still;
+  }
+
+  pub remembers-carries : (c k i d : ℕ) (t : List ℕ) → TableOf n t → machine.Remembers n c k i d (view n t) → Remembers n c k i d t
+  remembers-carries c k i d = remembers c k i d .carries
+
   pub acknowledgement-carries : (c k i d : ℕ) (t : List ℕ) → TableOf n t
-      → machine.Then n (λ gap q. machine.Never (server-crashes i) gap) (ack-arrives c k i d) (λ q. T (has (q (row c k (known i))) d)) (view n t)
-      → Then (λ gap q. Never (server-crashes i) gap) (ack-arrives c k i d) (λ q. T (has (view n q (row c k (known i))) d)) t
-  acknowledgement-carries c k i d =
-      andThen (without (server-crashes i)) (ack-arrives c k i d) (record {
-        ofState = λ q. T (has (q (row c k (known i))) d);
-        ofTable = λ q. T (has (view n q (row c k (known i))) d);
-        carries = λ t table knows. knows;
-      })
-      .carries
+      → machine.Then n (λ gap q. machine.Never (server-crashes i) gap) (ack-arrives c k i d) (machine.Remembers n c k i d) (view n t)
+      → Then (λ gap q. Never (server-crashes i) gap) (ack-arrives c k i d) (Remembers n c k i d) t
+  acknowledgement-carries c k i d = andThen (without (server-crashes i)) (ack-arrives c k i d) (remembers c k i d) .carries

@@ -7,10 +7,10 @@ use lib.Dec.{T}
 use Rattle.masks.specs.Mask.{has}
 use Rattle.protocol.specs.declared.Counts.{Counts}
 use Rattle.protocol.specs.declared.Event.{Event as Record}
-use Rattle.protocol.specs.Cells.{serverUp, databaseUp, clientUp, phase, attempt, row, owner, votedYes, decided, committed}
+use Rattle.protocol.specs.Cells.{serverUp, databaseUp, clientUp, phase, attempt, row, owner, votedYes, decided, committed, known}
 use Rattle.protocol.specs.Events.{Event, recordOf, suspect, trust, clean, decide-arrives, ack-arrives, result-arrives, server-crashes}
 use Rattle.protocol.specs.Agreement.{Id}
-use Rattle.protocol.specs.Progress.{Covers}
+use Rattle.protocol.specs.Progress.{Covers, Completes}
 use Rattle.table.specs.Table.{view}
 use Rattle.table.specs.Jobs.{applied}
 use Rattle.promises.specs.Lists.{Accepted, after}
@@ -31,6 +31,10 @@ ThenEach Proviso event [] K t = K t
 ThenEach Proviso event (d ∷ ds) K t = Then (Proviso d) (event d) (ThenEach Proviso event ds K) t
 
 module _ (n : Counts) where
+  -- server i knows database d's acknowledgement of the result, and goes on knowing it while it does not crash
+  abbrev pub Remembers : (c k i d : ℕ) → List ℕ → Type 0
+  Remembers c k i d t = (more : List Record) → Accepted t more → Never (server-crashes i) more → T (has (view n (after t more) (row c k (known i))) d)
+
   module _ (c k : ℕ) where
     -- all databases have decided the result, all alike, and no vote on it is open
     pub record Settled (t : List ℕ) : Type 0 where
@@ -42,11 +46,11 @@ module _ (n : Counts) where
     abbrev pub Freed : List ℕ → Type 0
     Freed t = (more : List Record) → Accepted t more → (view n (after t more) (phase c) ≡ 1) × (view n (after t more) (attempt c) ≡ k) → ⊥
 
-    -- once server i's decision has reached every database, that stays so; and if i is up then and does not crash, the acknowledgements to it,
-    -- in any order, and then the result are accepted, the latter if the client is up just then
+    -- once server i's decision has reached every database, that stays so; and if i is up then and does not crash, the acknowledgements to it that it does
+    -- not know yet, in any order, and then the result are accepted, the latter if the client is up just then
     pub record Decided (i : ℕ) (t : List ℕ) : Type 0 where
       pub forGood : (more : List Record) → Accepted t more → Settled (after t more)
-      pub answered : view n t (serverUp i) ≡ 1 → (ds : List ℕ) → Covers (n .databases) ds
+      pub answered : view n t (serverUp i) ≡ 1 → (ds : List ℕ) → Completes (n .databases) (view n t (row c k (known i))) ds
           → ThenEach (λ d gap q. Never (server-crashes i) gap) (ack-arrives c k i) ds (Then (λ gap q. view n q (clientUp c) ≡ 1) (result-arrives c k i) Freed) t
 
   -- for each claimed result and every other server i that is up: it suspects the owner, if it does not crash before; it cleans the result, if it neither

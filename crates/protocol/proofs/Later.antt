@@ -1,4 +1,5 @@
--- What lasts along a list of events: rows and clients in order, what a row once held, an attempt left behind, a server that is up, and its suspicion.
+-- What lasts along a list of events: rows and clients in order, what a row once held, an attempt left behind, a client that waits no longer, a server that is
+-- up, and its suspicion.
 use mathlib.Core.Bool.{cond}
 use mathlib.Core.List.{List, [], _∷_, _++_}
 use mathlib.Core.Path.{_≡_, refl, ap, ap₂}
@@ -10,7 +11,7 @@ use Rattle.lists.proofs.Choice.{by-cond, by-bool, by-eq}
 use Rattle.masks.specs.Mask.{has}
 use Rattle.masks.proofs.Laws.{keep, has-without-other}
 use Rattle.protocol.specs.declared.Counts.{Counts}
-use Rattle.protocol.specs.Cells.{State, rowOf, storeAll, serverUp, suspects, phase, attempt}
+use Rattle.protocol.specs.Cells.{State, rowOf, storeAll, serverUp, suspects, phase, attempt, request, delivered}
 use Rattle.protocol.specs.Events.{Event, issue, timeout, request-arrives, compute, prepare-arrives, vote-arrives, ready-arrives, write, suspect, trust, clean, decide-arrives, ack-arrives, result-arrives, server-crashes, database-crashes, client-crashes, database-recovers}
 use Rattle.protocol.specs.Machine.{next, run, Accepted, Met}
 use Rattle.protocol.specs.Progress.{Never, Freed}
@@ -19,6 +20,7 @@ use Rattle.protocol.proofs.Store.{result-elim}
 use Rattle.protocol.proofs.Rows.{Grows, grows-refl, grows-trans}
 use Rattle.protocol.proofs.RowSteps.{Rows, rows-step, grows-step}
 use Rattle.protocol.proofs.Clients.{Clients, clients-step}
+use Rattle.protocol.proofs.ClientSteps.{client-elim}
 
 -- ---- what each event keeps, a list of them keeps
 
@@ -83,34 +85,12 @@ module _ (n : Counts) (c k : ℕ) where
   Past s = Beyond k (s (phase c)) (s (attempt c))
 
   past-step : (s : State) (e : Event) → Met n s e → Past s → Past (next n s e)
-  unfolding next
-  past-step s (issue x v) m past =
-      by-bool (λ b. Beyond k (cond b 1 (s (phase c))) (cond b 1 (s (attempt c)))) (eqb x c)
-      (λ t. absurd (omega (arith, rw (eqb→eq x c t) at (eqb→eq (s (phase x)) 0 (m .must .0))))) past
-  past-step s (timeout x) m past = past
-  past-step s (request-arrives x y i) m past = past
-  past-step s (compute x y i v) m past = past
-  past-step s (prepare-arrives x y d v) m past = past
-  past-step s (vote-arrives x y i d) m past = past
-  past-step s (ready-arrives x y i d) m past = past
-  past-step s (write x y i) m past = past
-  past-step s (suspect i o) m past = past
-  past-step s (trust i o) m past = past
-  past-step s (clean x y i) m past = past
-  past-step s (decide-arrives x y i d) m past = past
-  past-step s (ack-arrives x y i d) m past = past
-  past-step s (result-arrives x y i) m past =
-      result-elim (λ ws. Past (storeAll s ws)) n s x y i (λ idle. past)
-      (λ waits commit. by-cond (λ itsPhase. Beyond k itsPhase (s (attempt c))) (eqb x c) 2 _
-      (λ t. finished k 2 (s (attempt c)) (omega arith) (past .1)) (λ t. past))
-      (λ waits abort. by-cond (λ itsPhase. Beyond k itsPhase (s (attempt c))) (eqb x c) 3 _
-      (λ t. finished k 3 (s (attempt c)) (omega arith) (past .1)) (λ t. past))
-      (λ waits abort more. by-cond (Beyond k (s (phase c))) (eqb x c) (suc y) _
-      (λ t. let later : k < suc y = omega (arith, rw (eqb→eq x c t) at (waits .1)) in (past .0, omega arith, λ one. later)) (λ t. past))
-  past-step s (server-crashes i) m past = past
-  past-step s (database-crashes d) m past = past
-  past-step s (client-crashes x) m past = past
-  past-step s (database-recovers d) m past = past
+  past-step s e m past =
+      client-elim n c (λ itsPhase itsAttempt itsRequest itsValue. Beyond k itsPhase itsAttempt) s past
+      (λ v idle. absurd (omega (arith, past .0)))
+      (λ v waits. finished k 2 (s (attempt c)) (omega arith) (past .1))
+      (λ waits. finished k 3 (s (attempt c)) (omega arith) (past .1))
+      (λ waits. (past .0, omega (arith, past .1), λ one. omega (arith, past .1))) e m
 
   pub past-freed : (s : State) → Past s → Freed n c k s
   past-freed s past more accepted waits = omega (arith, along n Past past-step more s accepted past .2 (waits .0), waits)
@@ -124,6 +104,24 @@ module _ (n : Counts) (c k : ℕ) where
       (λ waits commit. rw (eq-eqb c c refl) (finished k 2 (s (attempt c)) (omega arith) come))
       (λ waits abort. rw (eq-eqb c c refl) (finished k 3 (s (attempt c)) (omega arith) come))
       (λ waits abort more. rw (eq-eqb c c refl) (issued, omega arith, λ one. omega arith))
+
+-- ---- a client that waits no longer
+
+module _ (n : Counts) (c itsPhase itsAttempt itsRequest itsValue : ℕ) (over : 2 ≤ itsPhase) where
+  -- it has this phase, attempt, request and delivered value
+  abbrev Rests : State → Type 0
+  Rests s = (s (phase c) ≡ itsPhase) × (s (attempt c) ≡ itsAttempt) × (s (request c) ≡ itsRequest) × (s (delivered c) ≡ itsValue)
+
+  rests-step : (s : State) (e : Event) → Met n s e → Rests s → Rests (next n s e)
+  rests-step s e m rests =
+      client-elim n c (λ p k r v. (p ≡ itsPhase) × (k ≡ itsAttempt) × (r ≡ itsRequest) × (v ≡ itsValue)) s rests
+      (λ v idle. absurd (omega (arith, rests .0)))
+      (λ v waits. absurd (omega (arith, rests .0)))
+      (λ waits. absurd (omega (arith, rests .0)))
+      (λ waits. absurd (omega (arith, rests .0))) e m
+
+  pub rests-run : (list : List Event) (s : State) → Accepted n s list → Rests s → Rests (run n s list)
+  rests-run = along n Rests rests-step
 
 -- ---- a server stays up where it does not crash, and keeps a suspicion where it does not trust again
 

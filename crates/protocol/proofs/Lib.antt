@@ -12,8 +12,12 @@ pub mod RowSteps
 pub mod Clients
 pub mod History
 pub mod Agreement
+pub mod ClientSteps
 pub mod Later
 pub mod Plan
 pub mod Progress
 pub mod Open
 pub mod Acknowledged
+pub mod Answers
+pub mod Finality
+pub mod Touched

@@ -27,7 +27,7 @@ module _ (n : Counts) (Proviso : ℕ → List Event → State → Type 0) (event
     → Advance n event Holds Done s (run n s gap) d)
     (end : (s : State) → Holds s → ((d : ℕ) → Id (n .databases) d → Done s d) → Goal s) where
   -- the databases to come, where all others are done
-  then-rest : (ds : List ℕ) → ((d : ℕ) → In d ds → Id (n .databases) d) → (s : State) → Holds s
+  pub then-rest : (ds : List ℕ) → ((d : ℕ) → In d ds → Id (n .databases) d) → (s : State) → Holds s
       → ((d : ℕ) → Id (n .databases) d → In d ds ⊎ Done s d) → ThenEach n Proviso event ds Goal s
   then-rest [] only s holds left = end s holds (λ d range. elim (left d range) [ inl named ↦ absurd (nobody d named) | inr done ↦ done ])
   then-rest (d ∷ ds) only s holds left = λ gap accepted proviso.

@@ -20,7 +20,7 @@ use Rattle.protocol.specs.Events.{Event, suspect, trust, clean, decide-a
 use Rattle.protocol.specs.Rules.{cleanRule, decideRule, ackRule}
 use Rattle.protocol.specs.Machine.{next, run, Accepted, Met}
 use Rattle.protocol.specs.Agreement.{Id}
-use Rattle.protocol.specs.Progress.{Never, Covers, Then, ThenEach, Settled, Freed, Decided, Progress}
+use Rattle.protocol.specs.Progress.{Never, Covers, Completes, Then, ThenEach, Settled, Freed, Decided, Progress}
 use Rattle.protocol.proofs.Tests.{_and_, equal, unequal, id-inside}
 use Rattle.protocol.proofs.Store.{at-row}
 use Rattle.protocol.proofs.Acceptance.{meets}
@@ -29,7 +29,7 @@ use Rattle.protocol.proofs.RowSteps.{Rows}
 use Rattle.protocol.proofs.Clients.{Clients, owned-reached}
 use Rattle.protocol.proofs.Agreement.{reached-fresh}
 use Rattle.protocol.proofs.Later.{Since, since-step, since-run, result-past, past-freed, up-run, suspects-run}
-use Rattle.protocol.proofs.Plan.{Advance, then-each}
+use Rattle.protocol.proofs.Plan.{Advance, then-rest, then-each}
 
 -- a party put into the mask of server i
 mark-at : (mask i party : ℕ) → 1 ≤ party → T (has (cond (eqb i i) (with mask party) mask) party)
@@ -125,11 +125,11 @@ module _ (n : Counts) (c k i : ℕ) (is-client : Id (n .clients) c) (is-attempt 
         stay = grown .grow-known i;
       }
 
-  acknowledges : (s : State) → Acked s → (ds : List ℕ) → Covers (n .databases) ds
+  acknowledges : (s : State) → Acked s → (ds : List ℕ) → Completes (n .databases) (s (row c k (known i))) ds
       → ThenEach n (λ d gap q. Never (server-crashes i) gap) (ack-arrives c k i) ds Result s
-  acknowledges s state ds covers =
-      then-each n (λ d gap q. Never (server-crashes i) gap) (ack-arrives c k i) Result Acked Knows
-      acknowledge (λ q all. result q (all .cleaned)) ds covers s state
+  acknowledges s state ds completes =
+      then-rest n (λ d gap q. Never (server-crashes i) gap) (ack-arrives c k i) Result Acked Knows
+      acknowledge (λ q all. result q (all .cleaned)) ds (completes .only) s state (completes .whole)
 
   -- ---- the decisions
 

@@ -74,7 +74,7 @@ Answers r = record {
 abbrev pub RowInvariant : Counts → Row → Type 0
 RowInvariant n r = record { claim : Claim n r; votes : Votes n r; register : Register n r; decisions : Decisions r; answers : Answers r }
 
-same-answer : (a b : Bool) → (T a → T b) → (T b → T a) → a ≡ b
+pub same-answer : (a b : Bool) → (T a → T b) → (T b → T a) → a ≡ b
 same-answer true b f g = sym (T-true b (f tt))
 same-answer false true f g = absurd (g tt)
 same-answer false false f g = refl

@@ -6,10 +6,15 @@ use Prim.Native.Nat.{ℕ, suc}
 use lib.Dec.{T, eqb, eqb→eq, T-not}
 use Rattle.lists.proofs.Choice.{by-cond, by-both, T-true}
 use Rattle.protocol.specs.declared.Counts.{Counts}
-use Rattle.protocol.specs.Cells.{Field, outcome, value, phase, attempt, delivered, row, fieldTag, fieldServer, State, Row, rowOf}
+use Rattle.protocol.specs.Cells.{Field, Name, outcome, value, phase, attempt, delivered, row, fieldTag, fieldServer, State, Row, rowOf}
 use Rattle.protocol.specs.Cells.{Writes, store, storeAll, RowWrites, storeField, storeFields, inRow}
 use Rattle.protocol.specs.Rules.{calls, resultRule}
 use Rattle.protocol.proofs.Tests.{differ, split-both, join-both}
+
+-- every name that is written has the property
+abbrev pub Each : (Name → Type 0) → Writes → Type 0
+Each P [] = Unit {0}
+Each P (w ∷ ws) = P (w .0) × Each P ws
 
 -- ---- writes to one row
 

@@ -6,3 +6,5 @@ pub mod Answers
 pub mod Machine
 pub mod Agreement
 pub mod Progress
+pub mod Finality
+pub mod Touched

@@ -7,7 +7,7 @@ use lib.Dec.{T}
 use mathlib.Core.Bool.{not}
 use Rattle.masks.specs.Mask.{has}
 use Rattle.protocol.specs.declared.Counts.{Counts}
-use Rattle.protocol.specs.Cells.{State, serverUp, databaseUp, clientUp, phase, attempt, row, owner, votedYes, decided, committed}
+use Rattle.protocol.specs.Cells.{State, serverUp, databaseUp, clientUp, phase, attempt, row, owner, votedYes, decided, committed, known}
 use Rattle.protocol.specs.Events.{Event, suspect, trust, clean, decide-arrives, ack-arrives, result-arrives, server-crashes}
 use Rattle.protocol.specs.Numbers.{refusal}
 use Rattle.protocol.specs.Machine.{next, run, Accepted}
@@ -29,6 +29,11 @@ pub record Covers (n : ℕ) (ds : List ℕ) : Type 0 where
   pub only : (d : ℕ) → In d ds → Id n d
   pub whole : (d : ℕ) → Id n d → In d ds
 
+-- the same, but that those in the mask may be left out
+pub record Completes (n mask : ℕ) (ds : List ℕ) : Type 0 where
+  pub only : (d : ℕ) → In d ds → Id n d
+  pub whole : (d : ℕ) → Id n d → In d ds ⊎ T (has mask d)
+
 module _ (n : Counts) where
   -- after any accepted events, if the proviso holds of them and of the state they led to, the event is accepted, and then K holds
   abbrev pub Then : (List Event → State → Type 0) → Event → (State → Type 0) → State → Type 0
@@ -39,6 +44,10 @@ module _ (n : Counts) where
   abbrev pub ThenEach : (ℕ → List Event → State → Type 0) → (ℕ → Event) → List ℕ → (State → Type 0) → State → Type 0
   ThenEach Proviso event [] K s = K s
   ThenEach Proviso event (d ∷ ds) K s = Then (Proviso d) (event d) (ThenEach Proviso event ds K) s
+
+  -- server i knows database d's acknowledgement of the result, and goes on knowing it while it does not crash
+  abbrev pub Remembers : (c k i d : ℕ) → State → Type 0
+  Remembers c k i d s = (more : List Event) → Accepted n s more → Never (server-crashes i) more → T (has (run n s more (row c k (known i))) d)
 
   -- ---- what the plan leads to
 
@@ -53,11 +62,11 @@ module _ (n : Counts) where
     abbrev pub Freed : State → Type 0
     Freed s = (more : List Event) → Accepted n s more → (run n s more (phase c) ≡ 1) × (run n s more (attempt c) ≡ k) → ⊥
 
-    -- once server i's decision has reached every database, that stays so; and if i is up then and does not crash, the acknowledgements to it,
-    -- in any order, and then the result are accepted, the latter if the client is up just then
+    -- once server i's decision has reached every database, that stays so; and if i is up then and does not crash, the acknowledgements to it that it does
+    -- not know yet, in any order, and then the result are accepted, the latter if the client is up just then
     pub record Decided (i : ℕ) (s : State) : Type 0 where
       pub forGood : (more : List Event) → Accepted n s more → Settled (run n s more)
-      pub answered : s (serverUp i) ≡ 1 → (ds : List ℕ) → Covers (n .databases) ds
+      pub answered : s (serverUp i) ≡ 1 → (ds : List ℕ) → Completes (n .databases) (s (row c k (known i))) ds
           → ThenEach (λ d gap q. Never (server-crashes i) gap) (ack-arrives c k i) ds (Then (λ gap q. q (clientUp c) ≡ 1) (result-arrives c k i) Freed) s
 
   -- for each claimed result and every other server i that is up: it suspects the owner, if it does not crash before; it cleans the result, if it neither

@@ -79,7 +79,7 @@ module _ (t : List ℕ) (r : Record) (a : Accepts t r) where
   abbrev writes : Writes
   writes = rule counts before eventOf .writes
 
-  exist : Exist counts writes
+  pub exist : Exist counts writes
   exist =
       let first = in-inside (counts .attempts) 1 (omega arith) (inside-low 16 (counts .attempts) (a .sound .size .1 .1 .1 .1 .0)) in
       let waits = waiting-attempt counts before (range-facts counts before (a .sound .range)) in

@@ -8,3 +8,4 @@ pub mod Fresh
 pub mod Soundness
 pub mod Exactly
 pub mod Runs
+pub mod Changes

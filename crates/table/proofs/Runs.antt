@@ -22,7 +22,8 @@ use Rattle.protocol.proofs.Records.{event-record, event-of}
 use Rattle.table.specs.Table.{countsOf, view, setAll}
 use Rattle.table.specs.Jobs.{tableNumber, numberOf, after, applied, Ran, oneMore, stopped, runFrom, ran}
 use Rattle.table.proofs.Accepts.{table-sound, sound-table, Accepts, accepts, accepted}
-use Rattle.table.proofs.Bridge.{eventOf, after-writes, after-view, after-counts}
+use Rattle.table.proofs.Bridge.{eventOf, exist, after-writes, after-view, after-counts}
+use Rattle.table.proofs.View.{Exist}
 use Rattle.table.proofs.Soundness.{sound-kept}
 
 -- a sound table of a setup
@@ -37,6 +38,7 @@ pub record Does (n : Counts) (t : List ℕ) (r : Record) (e : Event) : Type 0 wh
   pub same : recordOf e ≡ r
   pub accepts : refusal n (view n t) e ≡ 0
   pub writes : applied t r .cells ≡ setAll n t (rule n (view n t) e .writes)
+  pub real : Exist n (rule n (view n t) e .writes)
   pub leads : view n (applied t r .cells) ≡ next n (view n t) e
   pub table : TableOf n (applied t r .cells)
 
@@ -53,6 +55,7 @@ does t r a =
       same = event-record (countsOf t) r (a .reading .kind) (a .reading .line) (a .reading .fields);
       accepts = a .reading .accepted;
       writes = cells ∙ after-writes t r a;
+      real = exist t r a;
       leads = ap (view (countsOf t)) cells ∙ after-view t r a;
       table = record { counts = ap countsOf cells ∙ after-counts t r a; sound = sound-kept t r z };
     }

@@ -10,6 +10,7 @@ use lib.Seq.{getD-set-same, getD-set-other}
 use Rattle.protocol.specs.declared.Counts.{Counts}
 use Rattle.protocol.specs.Cells.{Field, sameField, fieldExists, Name, same, exists, store, storeAll, Writes, storeField, RowWrites}
 use Rattle.protocol.proofs.Names.{same-equal, same-field-equal}
+use Rattle.protocol.proofs.Store.{Each}
 use Rattle.table.specs.Layout.{slot, rowLength, headerLength, place, tableLength}
 use Rattle.table.specs.Table.{countsOf, view, setAll, setFields, rowView}
 use Rattle.table.proofs.Places.{slot-inside, slot-same, place-behind, place-inside, place-same}
@@ -27,8 +28,7 @@ read-set l p q v false false h f g k = refl
 module _ (n : Counts) where
   -- every name that is written is a cell of the setup
   abbrev pub Exist : Writes → Type 0
-  Exist [] = Unit {0}
-  Exist (w ∷ ws) = T (exists n (w .0)) × Exist ws
+  Exist = Each (λ m. T (exists n m))
 
   pub view-set : (t : List ℕ) → length t ≡ tableLength n → (m : Name) → T (exists n m) → (v : ℕ) → view n (set t (place n m) v) ≡ store (view n t) m v
   unfolding view
