@@ -6,7 +6,7 @@ use native.Mathlib.Omega.{arith}
 use lib.Dec.{T}
 use Rattle.masks.specs.Mask.{has}
 use Rattle.protocol.specs.declared.Counts.{Counts}
-use Rattle.protocol.specs.Cells.{State, Row, fresh, rowOf, phase, attempt, request, delivered, row, decided, committed}
+use Rattle.protocol.specs.Cells.{State, Row, fresh, rowOf, phase, attempt, request, delivered, decided, committed}
 use Rattle.protocol.specs.Events.{Event}
 use Rattle.protocol.specs.Machine.{run, Accepted}
 use Rattle.protocol.specs.Finality.{SameClient, Final}

@@ -1,13 +1,11 @@
--- What lasts along a list of events: rows and clients in order, what a row once held, an attempt left behind, a client that waits no longer, a server that is
--- up, and its suspicion.
-use mathlib.Core.Bool.{cond}
+-- What lasts along a list of events: rows and clients, what a row once held, an attempt left behind, a client at rest, a server that is up, and its suspicion.
 use mathlib.Core.List.{List, [], _∷_, _++_}
 use mathlib.Core.Path.{_≡_, refl, ap, ap₂}
-use Prim.Native.Nat.{ℕ, suc, _≤_, _<_}
+use Prim.Native.Nat.{ℕ, _≤_, _<_}
 use native.Mathlib.Omega.{arith}
 use borrow.Author.Tests.{eq-eqb}
 use lib.Dec.{T, eqb, eqb→eq}
-use Rattle.lists.proofs.Choice.{by-cond, by-bool, by-eq}
+use Rattle.lists.proofs.Choice.{by-cond, by-eq}
 use Rattle.masks.specs.Mask.{has}
 use Rattle.masks.proofs.Laws.{keep, has-without-other}
 use Rattle.protocol.specs.declared.Counts.{Counts}

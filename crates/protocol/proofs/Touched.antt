@@ -1,5 +1,4 @@
 -- Every cell that a rule writes is one that its event may change.
-use mathlib.Core.List.{[], _∷_}
 use mathlib.Core.Logic.{_⊎_, inl, inr}
 use mathlib.Core.Path.{refl}
 use Prim.Native.Nat.{ℕ}

@@ -1,10 +1,10 @@
 -- Which cells an accepted record changes: those that its event may change, and no other.
 use mathlib.Core.List.{List, [], _∷_}
 use mathlib.Core.Logic.{_⊎_, inl, inr}
-use mathlib.Core.Path.{_≡_, refl, ap, _∙_}
+use mathlib.Core.Path.{_≡_, refl, _∙_}
 use Prim.Native.Nat.{ℕ}
 use lib.Dec.{T}
-use lib.ListN.{length, getD, set}
+use lib.ListN.{getD, set}
 use lib.Seq.{getD-set-other}
 use Rattle.lists.proofs.Choice.{by-eq}
 use Rattle.protocol.specs.declared.Counts.{Counts}
