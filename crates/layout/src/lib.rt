@@ -77,7 +77,7 @@ pub fn server_at(server: u16) -> usize
 }
 
 // Where those of the databases start.
-fn databases_start(counts: Counts) -> usize
+pub fn databases_start(counts: Counts) -> usize
     ensures { λ r. ⌜ r ≡ databasesStart counts ⌝ }
 {
     HEADER + SERVER_CELLS * (counts.servers as usize)
@@ -92,7 +92,7 @@ pub fn database_at(counts: Counts, database: u16) -> usize
 }
 
 // Where those of the clients start.
-fn clients_start(counts: Counts) -> usize
+pub fn clients_start(counts: Counts) -> usize
     ensures { λ r. ⌜ r ≡ clientsStart counts ⌝ }
 {
     databases_start(counts) + DATABASE_CELLS * (counts.databases as usize)
@@ -116,7 +116,7 @@ pub fn row_length(counts: Counts) -> usize
 }
 
 // Where the rows start.
-fn rows_start(counts: Counts) -> usize
+pub fn rows_start(counts: Counts) -> usize
     ensures { λ r. ⌜ r ≡ rowsStart counts ⌝ }
 {
     clients_start(counts) + CLIENT_CELLS * (counts.clients as usize)

@@ -1,4 +1,4 @@
-// Reads the input of a listing from a descriptor and writes the listing to standard output.
+// Reads an input from a descriptor, writes its listing to standard output, and opens the stored inputs of a program one by one.
 ghost use mathlib.Core.Path.{_≡_};
 ghost use Prim.Native.Nat.{_≤_};
 ghost use lib.ListN.{length};
@@ -39,7 +39,7 @@ fn read_some(descriptor: i32, room: &mut [u8]) -> Got
 }
 
 // Reads to the end of the input or of the room.
-fn read_input(descriptor: i32, room: &mut [u8]) -> Got
+pub fn read_input(descriptor: i32, room: &mut [u8]) -> Got
     ensures { λ r. ⌜ gotBytes r ≤ length (now (room .entry)) ⌝ }
 {
     let mut filled = 0;
@@ -63,4 +63,23 @@ pub fn print_listing(descriptor: i32, name: &[u8]) {
         return;
     };
     write_listing(&input[..length]);
+}
+
+// The digit of a number at a place.
+fn digit(number: u16, place: u16) -> u8
+    requires { ⌜ 1 ≤ place ⌝ }
+{
+    48 + (number / place % 10) as u8
+}
+
+// Opens the stored input of a number, in the file that three digits name, and prints a line with the name; below 0 where there is none.
+pub fn open_stored(number: u16) -> i32 {
+    let name = [digit(number, 100), digit(number, 10), digit(number, 1)];
+    let descriptor = os::open_read(&name);
+    if 0 <= descriptor {
+        io::write_all(STDOUT_FILENO, b"= ");
+        io::write_all(STDOUT_FILENO, &name);
+        io::write_all(STDOUT_FILENO, b"\n");
+    }
+    descriptor
 }
