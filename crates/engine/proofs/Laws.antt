@@ -1,21 +1,21 @@
 -- How the parts of the one-event job make up its meaning: the table's numbers, then the record's, then the rule's.
-use mathlib.Core.Path.{_≡_, sym, ap, _∙_}
-use mathlib.Core.Bool.{true, false, not, cond, _&&_}
+use mathlib.Core.Path.{_≡_, refl, sym, ap, _∙_}
+use mathlib.Core.Bool.{true, false, cond, _&&_}
 use mathlib.Core.List.{List}
-use mathlib.Core.Option.{some}
-use Prim.Native.Nat.{ℕ, suc, _≤_, _<_}
+use mathlib.Core.Option.{Option, none, some}
+use Prim.Native.Nat.{ℕ, zero, suc, _≤_, _<_}
 use native.Mathlib.Omega.{arith}
 use borrow.Author.Tests.{eq-eqb, ne-eqb}
 use lib.Dec.{T, eqb, eqb→eq, not-T}
 use lib.ListN.{length}
 use Rattle.lists.specs.Tests.{every, inside}
-use Rattle.lists.proofs.Choice.{and-false, true-T, every-all, in-inside, inside-low, inside-high}
+use Rattle.lists.proofs.Choice.{and-false, true-T, false-T, every-all, inside-low, inside-high}
 use Rattle.protocol.specs.declared.Counts.{Counts}
 use Rattle.protocol.specs.declared.Event.{Event}
 use Rattle.protocol.specs.Events.{Kind, kindOf, recordOf}
 use Rattle.protocol.specs.Numbers.{countTests, inRange, fieldTests, fields, acting, areUp, refusal, refusalAt, recordRefusal}
 use Rattle.protocol.specs.Rules.{rule}
-use Rattle.protocol.proofs.Records.{kind-known, kind-unknown, event-record}
+use Rattle.protocol.proofs.Records.{kind-unknown, event-record}
 use Rattle.table.specs.Layout.{tableLength}
 use Rattle.table.specs.Table.{countsOf, view, sizeTests, freshTable, setAll}
 use Rattle.table.specs.Jobs.{Done, setUpNumber, setUp, tableNumber, numberOf, writesAt, after, applied}
@@ -60,57 +60,74 @@ goes-on t e f = rw f
 
 -- ---- numbers 3 to 7: the record
 
-pub unknown : (n : Counts) (t : List ℕ) (e : Event) → (1 ≤ e .kind → e .kind ≤ 18 → ⊥) → _≡_ {A = Done} (record { number = 3; cells = t }) (answered n t e)
-unfolding answered recordRefusal
-unknown n t e out = rw (kind-unknown (e .kind) (not-T (inside 18 (e .kind)) (λ x. out (inside-low 18 (e .kind) x) (inside-high 18 (e .kind) x))))
-
-module _ (n : Counts) (t : List ℕ) (e : Event) (low : 1 ≤ e .kind) (high : e .kind ≤ 18) where
-  known : (kind : Kind) × (kindOf (e .kind) ≡ some kind)
-  known = kind-known (e .kind) (in-inside 18 (e .kind) low high)
-
-  pub wrong-field : every (fields n e) ≡ false → _≡_ {A = Done} (record { number = 4; cells = t }) (answered n t e)
-  unfolding answered recordRefusal known
-  wrong-field f = rw (known .1, rw (known .1) at f)
-
-  module _ (fit : every (fields n e) ≡ true) where
+module _ (n : Counts) (t : List ℕ) (e : Event) where
+  -- a record whose kind has this line in the table, and whose fields are as it says
+  module _ (kind : Kind) (line : kindOf (e .kind) ≡ some kind) (fit : every (fields n e) ≡ true) where
     event : Rattle.protocol.specs.Events.Event
-    event = known .0 .event e
+    event = kind .event e
 
-    tests : every (fieldTests n (some (known .0)) e) ≡ true
-    unfolding known
-    tests = rw (known .1) at fit
+    tests : every (fieldTests n (some kind) e) ≡ true
+    tests = rw line at fit
 
     again : recordOf event ≡ e
-    unfolding event known
-    again = event-record n e (known .0) (known .1) (every-all (fieldTests n (some (known .0)) e) (true-T _ tests))
+    unfolding event
+    again = event-record n e kind line (every-all (fieldTests n (some kind) e) (true-T _ tests))
 
     -- the field check of the record is that of its event, so what is left is who is up, and the rule
     number-is : recordRefusal n (view n t) e ≡ cond (every (areUp (view n t) (acting event))) (ruleNumber (rule n (view n t) event)) 5
-    unfolding recordRefusal refusal event known
+    unfolding recordRefusal refusal event
     number-is =
-        ap (refusalAt n (view n t) e) (known .1)
+        ap (refusalAt n (view n t) e) line
         ∙ rw (tests, ap (λ x. every (fields n x)) again ∙ fit)
 
     cells-are : after n t e ≡ setAll n t (rule n (view n t) event .writes)
-    unfolding after event known
-    cells-are = ap (λ k. setAll n t (writesAt n (view n t) e k)) (known .1)
+    unfolding after event
+    cells-are = ap (λ k. setAll n t (writesAt n (view n t) e k)) line
 
     up-is : partiesUp n t e ≡ every (areUp (view n t) (acting event))
-    unfolding partiesUp event known
-    up-is = ap (upAt n t e) (known .1)
+    unfolding partiesUp event
+    up-is = ap (upAt n t e) line
 
-    pub party-down : partiesUp n t e ≡ false → _≡_ {A = Done} (record { number = 5; cells = t }) (answered n t e)
+    down-here : partiesUp n t e ≡ false → _≡_ {A = Done} (record { number = 5; cells = t }) (answered n t e)
     unfolding answered
-    party-down down = rw (number-is, sym up-is ∙ down)
+    down-here down = rw (number-is, sym up-is ∙ down)
 
-    pub ruled-so : partiesUp n t e ≡ true → followed n t e ≡ answered n t e
-    unfolding answered followed event known
-    ruled-so up = ap (followedAt n t e) (known .1) ∙ rw (number-is, sym up-is ∙ up, cells-are)
+    ruled-here : partiesUp n t e ≡ true → followed n t e ≡ answered n t e
+    unfolding answered followed event
+    ruled-here up = ap (followedAt n t e) line ∙ rw (number-is, sym up-is ∙ up, cells-are)
 
--- ---- the kinds: one up at a time, past those that a kind is not
+  by-line : {P : Type 0} → (kindOf (e .kind) ≡ none → P) → ((kind : Kind) → kindOf (e .kind) ≡ some kind → P) → P
+  by-line {P} unlisted listed = at (kindOf (e .kind)) refl
+    where
+      at : (k : Option Kind) → kindOf (e .kind) ≡ k → P
+      at none line = unlisted line
+      at (some kind) line = listed kind line
 
-pub next : {k : ℕ} (n : ℕ) → n ≤ k → (k ≡ n → ⊥) → suc n ≤ k
-next n h f = omega arith
+  -- where the kind has no line there is no field and no party to ask, and 3 is given
+  pub wrong-field : every (fields n e) ≡ false → _≡_ {A = Done} (record { number = 4; cells = t }) (answered n t e)
+  unfolding answered recordRefusal
+  wrong-field f = by-line (λ line. absurd (false-T true (rw line at f))) (λ kind line. rw (line, rw line at f))
+
+  pub party-down : every (fields n e) ≡ true → partiesUp n t e ≡ false → _≡_ {A = Done} (record { number = 5; cells = t }) (answered n t e)
+  unfolding partiesUp
+  party-down fit down = by-line (λ line. absurd (false-T true (sym (ap (upAt n t e) line) ∙ down))) (λ kind line. down-here kind line fit down)
+
+  pub ruled-so : every (fields n e) ≡ true → partiesUp n t e ≡ true → followed n t e ≡ answered n t e
+  unfolding answered followed recordRefusal
+  ruled-so fit up = by-line (λ line. rw line) (λ kind line. ruled-here kind line fit up)
+
+-- ---- a kind that is none of the first `last`, as a decision tells it behind its arms, and none of the 18
+
+abbrev pub NoneOf : ℕ → ℕ → Type 0
+NoneOf zero k = Unit {0}
+NoneOf (suc last) k = NoneOf last k × (k ≡ suc last → ⊥)
+
+past : (last k : ℕ) → 1 ≤ k → NoneOf last k → last < k
+past zero k low other = low
+past (suc last) k low other = omega (arith, past last k low (other .0), other .1)
+
+pub no-line : (k : ℕ) → NoneOf 18 k × (k ≡ 0 → ⊥) → kindOf k ≡ none
+no-line k other = kind-unknown k (not-T (inside 18 k) (λ t. omega (arith, past 18 k (inside-low 18 k t) (other .0), inside-high 18 k t)))
 
 -- ---- a record of a row's kind: its result, and no server or database beyond the last
 

@@ -1,15 +1,14 @@
 -- Which rule a record follows, which parties it asks to be up, and what is given of a record on a sound table.
-use mathlib.Core.Path.{_≡_}
 use mathlib.Core.Bool.{Bool, true, cond}
 use mathlib.Core.List.{List}
 use mathlib.Core.Option.{Option, none, some}
-use Prim.Native.Nat.{ℕ, _≤_}
+use Prim.Native.Nat.{ℕ}
 use lib.Dec.{eqb}
 use Rattle.lists.specs.Tests.{every}
 use Rattle.protocol.specs.declared.Counts.{Counts}
 use Rattle.protocol.specs.declared.Event.{Event}
 use Rattle.protocol.specs.Events.{Kind, kindOf}
-use Rattle.protocol.specs.Numbers.{fields, acting, areUp, recordRefusal}
+use Rattle.protocol.specs.Numbers.{acting, areUp, recordRefusal}
 use Rattle.protocol.specs.Rules.{rule}
 use Rattle.table.specs.Table.{view}
 use Rattle.table.specs.Jobs.{Done, after}
@@ -24,7 +23,7 @@ unfoldable pub followed : Counts → List ℕ → Event → Done
 unfolding view
 followed n t e = followedAt n t e (kindOf (e .kind))
 
--- all parties that act in a record of known kind are up
+-- all parties that act in a record are up; in one of unknown kind none acts
 abbrev pub upAt : Counts → List ℕ → Event → Option Kind → Bool
 upAt n t e none = true
 upAt n t e (some kind) = every (areUp (view n t) (acting (kind .event e)))
@@ -32,12 +31,6 @@ upAt n t e (some kind) = every (areUp (view n t) (acting (kind .event e)))
 unfoldable pub partiesUp : Counts → List ℕ → Event → Bool
 unfolding view
 partiesUp n t e = upAt n t e (kindOf (e .kind))
-
--- a record of known kind whose fields are as the table of kinds says
-pub record Passed (n : Counts) (e : Event) : Type 0 where
-  pub low : 1 ≤ e .kind
-  pub high : e .kind ≤ 18
-  pub fits : every (fields n e) ≡ true
 
 -- the number of a record on a sound table of these counts, and the cells after it
 unfoldable pub answered : Counts → List ℕ → Event → Done

@@ -3,13 +3,14 @@ ghost use mathlib.Core.Path.{_≡_};
 ghost use mathlib.Core.Bool.{true};
 ghost use lib.Dec.{T, eqb};
 ghost use lib.ListN.{length};
-ghost use Rattle.lists.specs.Tests.{inside};
+ghost use Rattle.lists.specs.Tests.{every, inside};
 ghost use Rattle.protocol.specs.Cells.{serverUp, databaseUp, clientUp};
+ghost use Rattle.protocol.specs.Numbers.{fields};
 ghost use Rattle.protocol.specs.Answers.{answerNumber};
 ghost use Rattle.table.specs.Table.{view};
 ghost use Rattle.table.specs.Jobs.{setUp, tableNumber, applied};
 ghost use Rattle.rules.specs.Rules.{Held};
-ghost use Rattle.engine.specs.Engine.{Passed, followed, partiesUp, answered};
+ghost use Rattle.engine.specs.Engine.{followed, partiesUp, answered};
 use protocol::Answer;
 use protocol::Counts;
 use protocol::Event;
@@ -46,10 +47,11 @@ fn database_up(table: &[u16], counts: Counts, database: u16) -> bool
     table[at] == 1
 }
 
-// Whether the parties that act in the event are up: client in 1, 2, 14, 17; server in 3, 4, 6 to 11, 13, 15; database in 5, 12, 16.
+// Whether the parties that act in the event are up: client in 1, 2, 14, 17; server in 3, 4, 6 to 11, 13, 15; database in 5, 12, 16;
+// none in 18 and in an unknown kind.
 fn parties_up(table: &[u16], counts: Counts, event: Event) -> bool
     requires { ⌜ Held counts (now table) ⌝ }
-    requires { ⌜ Passed counts event ⌝ }
+    requires { ⌜ every (fields counts event) ≡ true ⌝ }
     ensures { λ r. ⌜ r ≡ partiesUp counts (now (table .entry)) event ⌝ }
 {
     let kind = event.kind;
@@ -71,16 +73,17 @@ fn parties_up(table: &[u16], counts: Counts, event: Event) -> bool
         15 => server_up(table, counts, event.server),
         16 => database_up(table, counts, event.database),
         17 => client_up(table, counts, event.client),
-        _ => true,
+        18 => true,
+        0 | 19..=65535 => true,
     }
 }
 
-// ---- 6 and 7: the rule of the event's kind
+// ---- 3, 6 and 7: the rule of the event's kind
 
-// The decision over the 18 kinds.
+// The decision over the 18 kinds. An unknown kind comes this far, because no field and no party is asked of it before.
 fn follow(table: &mut [u16], counts: Counts, event: Event) -> Answer
     requires { ⌜ Held counts (now table) ⌝ }
-    requires { ⌜ Passed counts event ⌝ }
+    requires { ⌜ every (fields counts event) ≡ true ⌝ }
     ensures { λ r. ⌜ record { number = answerNumber r; cells = now (table .exit) } ≡ followed counts (now (table .entry)) event ⌝ }
 {
     let kind = event.kind;
@@ -113,13 +116,6 @@ fn answer(table: &mut [u16], counts: Counts, event: Event) -> Answer
     requires { ⌜ Held counts (now table) ⌝ }
     ensures { λ r. ⌜ record { number = answerNumber r; cells = now (table .exit) } ≡ answered counts (now (table .entry)) event ⌝ }
 {
-    let kind = event.kind;
-    if kind == 0 {
-        return Answer::UnknownKind;
-    }
-    if 18 < kind {
-        return Answer::UnknownKind;
-    }
     if !kinds::fields_fit(counts, event) {
         return Answer::WrongField;
     }

@@ -1,20 +1,20 @@
--- The five field tests of a record whose kind is known, by the limits of its kind.
+-- The five field tests of a record whose kind is known, by the limits of its kind; an unknown kind has no tests.
 use mathlib.Core.Path.{_≡_, refl, sym, ap, _∙_}
-use mathlib.Core.Bool.{Bool, false, _&&_}
+use mathlib.Core.Bool.{Bool, true, false, _&&_}
 use mathlib.Core.List.{List, [], _∷_, map}
 use mathlib.Core.Option.{some, Option·none-ne-some, Option·some-injective}
 use Prim.Native.Nat.{ℕ, zero, suc, _-_, _≤_}
 use native.Mathlib.Omega.{arith}
-use lib.Dec.{leb}
+use lib.Dec.{leb, not-T}
 use lib.ListN.{getD, getElem?}
 use borrow.Author.Tests.{le-leb}
 use Rattle.lists.specs.Tests.{every, inside}
-use Rattle.lists.proofs.Choice.{in-inside}
+use Rattle.lists.proofs.Choice.{in-inside, inside-low, inside-high}
 use Rattle.protocol.specs.declared.Counts.{Counts}
 use Rattle.protocol.specs.declared.Event.{Event}
 use Rattle.protocol.specs.Events.{Kind, kinds, kindOf, largest, fits}
 use Rattle.protocol.specs.Numbers.{fieldTests, fields}
-use Rattle.protocol.proofs.Records.{kind-known}
+use Rattle.protocol.proofs.Records.{kind-known, kind-unknown}
 use Rattle.kinds.specs.Limits.{limitsOf, limitsAt}
 
 -- the limits of a line of a table of kinds
@@ -43,6 +43,9 @@ fields-limited n e limits is low high =
     let known = kind-known (e .kind) (in-inside 18 (e .kind) low high) in
     ap (λ k. every (fieldTests n k e)) (known .1)
     ∙ ap (λ l. every (limited n l e)) (sym (is ∙ limits-at (e .kind) (known .0) (known .1)))
+
+pub unknown-fits : (n : Counts) (e : Event) → (1 ≤ e .kind → e .kind ≤ 18 → ⊥) → true ≡ every (fields n e)
+unknown-fits n e out = rw (kind-unknown (e .kind) (not-T (inside 18 (e .kind)) (λ t. out (inside-low 18 (e .kind) t) (inside-high 18 (e .kind) t))))
 
 -- a field that is used: not 0, and at most its largest value
 pub zero-outside : (most field : ℕ) → field ≡ 0 → inside most field ≡ false

@@ -1,8 +1,7 @@
 -- `engine::follow` meets its contract.
 use mathlib.Core.Path.{refl}
-use native.Mathlib.Omega.{arith}
 use Rattle.rules.proofs.Laws.{at-kind}
-use Rattle.engine.proofs.Laws.{by-server, by-database, by-both-parties, next}
+use Rattle.engine.proofs.Laws.{by-server, by-database, by-both-parties, no-line}
 use Rattle.engine.specs.Engine.{followed}
 use borrow.Author.Needs.{needs}
 use Rattle.engine.proofs.follow.Statement.{statement}
@@ -13,7 +12,7 @@ issue-requires c κs =
     let s = c .before .before .before in
     let n = s .args .counts in
     let e = s .args .event in
-    let f = at-kind n e 1 (c .before .match .keys1) (s .pre .1 .fits) in
+    let f = at-kind n e 1 (c .before .match .keys1) (s .pre .1) in
     (s .pre .0, f .0)
 
 timeout-requires : tie.Need-timeout-requires
@@ -21,7 +20,7 @@ timeout-requires c κs =
     let s = c .before .before .before in
     let n = s .args .counts in
     let e = s .args .event in
-    let f = at-kind n e 2 (c .before .match .keys2) (s .pre .1 .fits) in
+    let f = at-kind n e 2 (c .before .match .keys2) (s .pre .1) in
     (s .pre .0, f .0)
 
 at-row-requires : tie.Need-at-row-requires
@@ -29,55 +28,55 @@ at-row-requires c κs =
     let s = c .before .before .before in
     let n = s .args .counts in
     let e = s .args .event in
-    let f = at-kind n e 3 (c .before .match .keys3) (s .pre .1 .fits) in
-    (s .pre .0, by-server n e 3 (c .before .match .keys3) refl (s .pre .1 .fits) (f .0) (f .1 .0) (f .1 .1 .0) (f .1 .1 .1 .0))
+    let f = at-kind n e 3 (c .before .match .keys3) (s .pre .1) in
+    (s .pre .0, by-server n e 3 (c .before .match .keys3) refl (s .pre .1) (f .0) (f .1 .0) (f .1 .1 .0) (f .1 .1 .1 .0))
 
 at-row-requires-2 : tie.Need-at-row-requires-2
 at-row-requires-2 c κs =
     let s = c .before .before .before in
     let n = s .args .counts in
     let e = s .args .event in
-    let f = at-kind n e 4 (c .before .match .keys4) (s .pre .1 .fits) in
-    (s .pre .0, by-server n e 4 (c .before .match .keys4) refl (s .pre .1 .fits) (f .0) (f .1 .0) (f .1 .1 .0) (f .1 .1 .1 .0))
+    let f = at-kind n e 4 (c .before .match .keys4) (s .pre .1) in
+    (s .pre .0, by-server n e 4 (c .before .match .keys4) refl (s .pre .1) (f .0) (f .1 .0) (f .1 .1 .0) (f .1 .1 .1 .0))
 
 at-row-requires-3 : tie.Need-at-row-requires-3
 at-row-requires-3 c κs =
     let s = c .before .before .before in
     let n = s .args .counts in
     let e = s .args .event in
-    let f = at-kind n e 5 (c .before .match .keys5) (s .pre .1 .fits) in
-    (s .pre .0, by-database n e 5 (c .before .match .keys5) refl (s .pre .1 .fits) (f .0) (f .1 .0) (f .1 .1 .0) (f .1 .1 .1 .0))
+    let f = at-kind n e 5 (c .before .match .keys5) (s .pre .1) in
+    (s .pre .0, by-database n e 5 (c .before .match .keys5) refl (s .pre .1) (f .0) (f .1 .0) (f .1 .1 .0) (f .1 .1 .1 .0))
 
 at-row-requires-4 : tie.Need-at-row-requires-4
 at-row-requires-4 c κs =
     let s = c .before .before .before in
     let n = s .args .counts in
     let e = s .args .event in
-    let f = at-kind n e 6 (c .before .match .keys6) (s .pre .1 .fits) in
-    (s .pre .0, by-both-parties n e 6 (c .before .match .keys6) refl (s .pre .1 .fits) (f .0) (f .1 .0) (f .1 .1 .0) (f .1 .1 .1 .0))
+    let f = at-kind n e 6 (c .before .match .keys6) (s .pre .1) in
+    (s .pre .0, by-both-parties n e 6 (c .before .match .keys6) refl (s .pre .1) (f .0) (f .1 .0) (f .1 .1 .0) (f .1 .1 .1 .0))
 
 at-row-requires-5 : tie.Need-at-row-requires-5
 at-row-requires-5 c κs =
     let s = c .before .before .before in
     let n = s .args .counts in
     let e = s .args .event in
-    let f = at-kind n e 7 (c .before .match .keys7) (s .pre .1 .fits) in
-    (s .pre .0, by-both-parties n e 7 (c .before .match .keys7) refl (s .pre .1 .fits) (f .0) (f .1 .0) (f .1 .1 .0) (f .1 .1 .1 .0))
+    let f = at-kind n e 7 (c .before .match .keys7) (s .pre .1) in
+    (s .pre .0, by-both-parties n e 7 (c .before .match .keys7) refl (s .pre .1) (f .0) (f .1 .0) (f .1 .1 .0) (f .1 .1 .1 .0))
 
 at-row-requires-6 : tie.Need-at-row-requires-6
 at-row-requires-6 c κs =
     let s = c .before .before .before in
     let n = s .args .counts in
     let e = s .args .event in
-    let f = at-kind n e 8 (c .before .match .keys8) (s .pre .1 .fits) in
-    (s .pre .0, by-server n e 8 (c .before .match .keys8) refl (s .pre .1 .fits) (f .0) (f .1 .0) (f .1 .1 .0) (f .1 .1 .1 .0))
+    let f = at-kind n e 8 (c .before .match .keys8) (s .pre .1) in
+    (s .pre .0, by-server n e 8 (c .before .match .keys8) refl (s .pre .1) (f .0) (f .1 .0) (f .1 .1 .0) (f .1 .1 .1 .0))
 
 suspect-requires : tie.Need-suspect-requires
 suspect-requires c κs =
     let s = c .before .before .before in
     let n = s .args .counts in
     let e = s .args .event in
-    let f = at-kind n e 9 (c .before .match .keys9) (s .pre .1 .fits) in
+    let f = at-kind n e 9 (c .before .match .keys9) (s .pre .1) in
     (s .pre .0, (f .1 .1 .0, f .1 .1 .1 .1 .0))
 
 trust-requires : tie.Need-trust-requires
@@ -85,7 +84,7 @@ trust-requires c κs =
     let s = c .before .before .before in
     let n = s .args .counts in
     let e = s .args .event in
-    let f = at-kind n e 10 (c .before .match .keys10) (s .pre .1 .fits) in
+    let f = at-kind n e 10 (c .before .match .keys10) (s .pre .1) in
     (s .pre .0, (f .1 .1 .0, f .1 .1 .1 .1 .0))
 
 at-row-requires-7 : tie.Need-at-row-requires-7
@@ -93,31 +92,31 @@ at-row-requires-7 c κs =
     let s = c .before .before .before in
     let n = s .args .counts in
     let e = s .args .event in
-    let f = at-kind n e 11 (c .before .match .keys11) (s .pre .1 .fits) in
-    (s .pre .0, by-server n e 11 (c .before .match .keys11) refl (s .pre .1 .fits) (f .0) (f .1 .0) (f .1 .1 .0) (f .1 .1 .1 .0))
+    let f = at-kind n e 11 (c .before .match .keys11) (s .pre .1) in
+    (s .pre .0, by-server n e 11 (c .before .match .keys11) refl (s .pre .1) (f .0) (f .1 .0) (f .1 .1 .0) (f .1 .1 .1 .0))
 
 at-row-requires-8 : tie.Need-at-row-requires-8
 at-row-requires-8 c κs =
     let s = c .before .before .before in
     let n = s .args .counts in
     let e = s .args .event in
-    let f = at-kind n e 12 (c .before .match .keys12) (s .pre .1 .fits) in
-    (s .pre .0, by-both-parties n e 12 (c .before .match .keys12) refl (s .pre .1 .fits) (f .0) (f .1 .0) (f .1 .1 .0) (f .1 .1 .1 .0))
+    let f = at-kind n e 12 (c .before .match .keys12) (s .pre .1) in
+    (s .pre .0, by-both-parties n e 12 (c .before .match .keys12) refl (s .pre .1) (f .0) (f .1 .0) (f .1 .1 .0) (f .1 .1 .1 .0))
 
 at-row-requires-9 : tie.Need-at-row-requires-9
 at-row-requires-9 c κs =
     let s = c .before .before .before in
     let n = s .args .counts in
     let e = s .args .event in
-    let f = at-kind n e 13 (c .before .match .keys13) (s .pre .1 .fits) in
-    (s .pre .0, by-both-parties n e 13 (c .before .match .keys13) refl (s .pre .1 .fits) (f .0) (f .1 .0) (f .1 .1 .0) (f .1 .1 .1 .0))
+    let f = at-kind n e 13 (c .before .match .keys13) (s .pre .1) in
+    (s .pre .0, by-both-parties n e 13 (c .before .match .keys13) refl (s .pre .1) (f .0) (f .1 .0) (f .1 .1 .0) (f .1 .1 .1 .0))
 
 result-requires : tie.Need-result-requires
 result-requires c κs =
     let s = c .before .before .before in
     let n = s .args .counts in
     let e = s .args .event in
-    let f = at-kind n e 14 (c .before .match .keys14) (s .pre .1 .fits) in
+    let f = at-kind n e 14 (c .before .match .keys14) (s .pre .1) in
     (s .pre .0, ((f .0, f .1 .0), f .1 .1 .0))
 
 crash-server-requires : tie.Need-crash-server-requires
@@ -125,7 +124,7 @@ crash-server-requires c κs =
     let s = c .before .before .before in
     let n = s .args .counts in
     let e = s .args .event in
-    let f = at-kind n e 15 (c .before .match .keys15) (s .pre .1 .fits) in
+    let f = at-kind n e 15 (c .before .match .keys15) (s .pre .1) in
     (s .pre .0, f .1 .1 .0)
 
 crash-database-requires : tie.Need-crash-database-requires
@@ -133,7 +132,7 @@ crash-database-requires c κs =
     let s = c .before .before .before in
     let n = s .args .counts in
     let e = s .args .event in
-    let f = at-kind n e 16 (c .before .match .keys16) (s .pre .1 .fits) in
+    let f = at-kind n e 16 (c .before .match .keys16) (s .pre .1) in
     (s .pre .0, f .1 .1 .1 .0)
 
 crash-client-requires : tie.Need-crash-client-requires
@@ -141,7 +140,7 @@ crash-client-requires c κs =
     let s = c .before .before .before in
     let n = s .args .counts in
     let e = s .args .event in
-    let f = at-kind n e 17 (c .before .match .keys17) (s .pre .1 .fits) in
+    let f = at-kind n e 17 (c .before .match .keys17) (s .pre .1) in
     (s .pre .0, f .0)
 
 recover-requires : tie.Need-recover-requires
@@ -149,7 +148,7 @@ recover-requires c κs =
     let s = c .before .before .before in
     let n = s .args .counts in
     let e = s .args .event in
-    let f = at-kind n e 18 (c .before .match .keys18) (s .pre .1 .fits) in
+    let f = at-kind n e 18 (c .before .match .keys18) (s .pre .1) in
     (s .pre .0, f .1 .1 .1 .0)
 
 same-length : tie.Need-same-length
@@ -279,14 +278,12 @@ unfolding followed
 returns-18 c = rw (c .before .before .before .before .match .keys18) (c .before .before .recover .ensures)
 
 returns-19 : tie.Need-returns-19
-returns-19 c = absurd (omega (arith, c .match .keys19, c .before .before .pre .1 .low))
+unfolding followed
+returns-19 c = rw (c .match .keys19)
 
 returns-20 : tie.Need-returns-20
-returns-20 c =
-    let s = c .before .before in
-    let r = c .match .rest in
-    let low = s .pre .1 .low in
-    absurd (omega (arith, s .pre .1 .high, (next 18 (next 17 (next 16 (next 15 (next 14 (next 13 (next 12 (next 11 (next 10 (next 9 (next 8 (next 7 (next 6 (next 5 (next 4 (next 3 (next 2 (next 1 low (r .0 .0 .0 .0 .0 .0 .0 .0 .0 .0 .0 .0 .0 .0 .0 .0 .0 .0 .1)) (r .0 .0 .0 .0 .0 .0 .0 .0 .0 .0 .0 .0 .0 .0 .0 .0 .0 .1)) (r .0 .0 .0 .0 .0 .0 .0 .0 .0 .0 .0 .0 .0 .0 .0 .0 .1)) (r .0 .0 .0 .0 .0 .0 .0 .0 .0 .0 .0 .0 .0 .0 .0 .1)) (r .0 .0 .0 .0 .0 .0 .0 .0 .0 .0 .0 .0 .0 .0 .1)) (r .0 .0 .0 .0 .0 .0 .0 .0 .0 .0 .0 .0 .0 .1)) (r .0 .0 .0 .0 .0 .0 .0 .0 .0 .0 .0 .0 .1)) (r .0 .0 .0 .0 .0 .0 .0 .0 .0 .0 .0 .1)) (r .0 .0 .0 .0 .0 .0 .0 .0 .0 .0 .1)) (r .0 .0 .0 .0 .0 .0 .0 .0 .0 .1)) (r .0 .0 .0 .0 .0 .0 .0 .0 .1)) (r .0 .0 .0 .0 .0 .0 .0 .1)) (r .0 .0 .0 .0 .0 .0 .1)) (r .0 .0 .0 .0 .0 .1)) (r .0 .0 .0 .0 .1)) (r .0 .0 .0 .1)) (r .0 .0 .1)) (r .0 .1))))
+unfolding followed
+returns-20 c = rw (no-line _ (c .match .rest))
 
 pub follow-spec : {M : Type 1} → statement M
 follow-spec =

@@ -1,9 +1,8 @@
 -- `engine::parties_up` meets its contract.
-use mathlib.Core.Path.{_≡_, sym, _∙_}
-use native.Mathlib.Omega.{arith}
+use mathlib.Core.Path.{sym, _∙_}
 use Rattle.rules.proofs.Laws.{at-kind}
 use Rattle.lists.proofs.Choice.{and-true}
-use Rattle.engine.proofs.Laws.{next}
+use Rattle.engine.proofs.Laws.{no-line}
 use Rattle.engine.specs.Engine.{partiesUp}
 use Rattle.engine.proofs.parties_up.Statement.{statement}
 use Rattle.engine.proofs.parties_up.Tie as tie
@@ -11,87 +10,87 @@ use Rattle.engine.proofs.parties_up.Tie as tie
 client-up-requires : tie.Need-client-up-requires
 client-up-requires c κs =
     let s = c .before .before in
-    (s .pre .0, at-kind (s .args .counts) (s .args .event) 1 (c .match .keys1) (s .pre .1 .fits) .0)
+    (s .pre .0, at-kind (s .args .counts) (s .args .event) 1 (c .match .keys1) (s .pre .1) .0)
 
 client-up-requires-2 : tie.Need-client-up-requires-2
 client-up-requires-2 c κs =
     let s = c .before .before in
-    (s .pre .0, at-kind (s .args .counts) (s .args .event) 2 (c .match .keys2) (s .pre .1 .fits) .0)
+    (s .pre .0, at-kind (s .args .counts) (s .args .event) 2 (c .match .keys2) (s .pre .1) .0)
 
 server-up-requires : tie.Need-server-up-requires
 server-up-requires c κs =
     let s = c .before .before in
-    (s .pre .0, at-kind (s .args .counts) (s .args .event) 3 (c .match .keys3) (s .pre .1 .fits) .1 .1 .0)
+    (s .pre .0, at-kind (s .args .counts) (s .args .event) 3 (c .match .keys3) (s .pre .1) .1 .1 .0)
 
 server-up-requires-2 : tie.Need-server-up-requires-2
 server-up-requires-2 c κs =
     let s = c .before .before in
-    (s .pre .0, at-kind (s .args .counts) (s .args .event) 4 (c .match .keys4) (s .pre .1 .fits) .1 .1 .0)
+    (s .pre .0, at-kind (s .args .counts) (s .args .event) 4 (c .match .keys4) (s .pre .1) .1 .1 .0)
 
 database-up-requires : tie.Need-database-up-requires
 database-up-requires c κs =
     let s = c .before .before in
-    (s .pre .0, at-kind (s .args .counts) (s .args .event) 5 (c .match .keys5) (s .pre .1 .fits) .1 .1 .1 .0)
+    (s .pre .0, at-kind (s .args .counts) (s .args .event) 5 (c .match .keys5) (s .pre .1) .1 .1 .1 .0)
 
 server-up-requires-3 : tie.Need-server-up-requires-3
 server-up-requires-3 c κs =
     let s = c .before .before in
-    (s .pre .0, at-kind (s .args .counts) (s .args .event) 6 (c .match .keys6) (s .pre .1 .fits) .1 .1 .0)
+    (s .pre .0, at-kind (s .args .counts) (s .args .event) 6 (c .match .keys6) (s .pre .1) .1 .1 .0)
 
 server-up-requires-4 : tie.Need-server-up-requires-4
 server-up-requires-4 c κs =
     let s = c .before .before in
-    (s .pre .0, at-kind (s .args .counts) (s .args .event) 7 (c .match .keys7) (s .pre .1 .fits) .1 .1 .0)
+    (s .pre .0, at-kind (s .args .counts) (s .args .event) 7 (c .match .keys7) (s .pre .1) .1 .1 .0)
 
 server-up-requires-5 : tie.Need-server-up-requires-5
 server-up-requires-5 c κs =
     let s = c .before .before in
-    (s .pre .0, at-kind (s .args .counts) (s .args .event) 8 (c .match .keys8) (s .pre .1 .fits) .1 .1 .0)
+    (s .pre .0, at-kind (s .args .counts) (s .args .event) 8 (c .match .keys8) (s .pre .1) .1 .1 .0)
 
 server-up-requires-6 : tie.Need-server-up-requires-6
 server-up-requires-6 c κs =
     let s = c .before .before in
-    (s .pre .0, at-kind (s .args .counts) (s .args .event) 9 (c .match .keys9) (s .pre .1 .fits) .1 .1 .0)
+    (s .pre .0, at-kind (s .args .counts) (s .args .event) 9 (c .match .keys9) (s .pre .1) .1 .1 .0)
 
 server-up-requires-7 : tie.Need-server-up-requires-7
 server-up-requires-7 c κs =
     let s = c .before .before in
-    (s .pre .0, at-kind (s .args .counts) (s .args .event) 10 (c .match .keys10) (s .pre .1 .fits) .1 .1 .0)
+    (s .pre .0, at-kind (s .args .counts) (s .args .event) 10 (c .match .keys10) (s .pre .1) .1 .1 .0)
 
 server-up-requires-8 : tie.Need-server-up-requires-8
 server-up-requires-8 c κs =
     let s = c .before .before in
-    (s .pre .0, at-kind (s .args .counts) (s .args .event) 11 (c .match .keys11) (s .pre .1 .fits) .1 .1 .0)
+    (s .pre .0, at-kind (s .args .counts) (s .args .event) 11 (c .match .keys11) (s .pre .1) .1 .1 .0)
 
 database-up-requires-2 : tie.Need-database-up-requires-2
 database-up-requires-2 c κs =
     let s = c .before .before in
-    (s .pre .0, at-kind (s .args .counts) (s .args .event) 12 (c .match .keys12) (s .pre .1 .fits) .1 .1 .1 .0)
+    (s .pre .0, at-kind (s .args .counts) (s .args .event) 12 (c .match .keys12) (s .pre .1) .1 .1 .1 .0)
 
 server-up-requires-9 : tie.Need-server-up-requires-9
 server-up-requires-9 c κs =
     let s = c .before .before in
-    (s .pre .0, at-kind (s .args .counts) (s .args .event) 13 (c .match .keys13) (s .pre .1 .fits) .1 .1 .0)
+    (s .pre .0, at-kind (s .args .counts) (s .args .event) 13 (c .match .keys13) (s .pre .1) .1 .1 .0)
 
 client-up-requires-3 : tie.Need-client-up-requires-3
 client-up-requires-3 c κs =
     let s = c .before .before in
-    (s .pre .0, at-kind (s .args .counts) (s .args .event) 14 (c .match .keys14) (s .pre .1 .fits) .0)
+    (s .pre .0, at-kind (s .args .counts) (s .args .event) 14 (c .match .keys14) (s .pre .1) .0)
 
 server-up-requires-10 : tie.Need-server-up-requires-10
 server-up-requires-10 c κs =
     let s = c .before .before in
-    (s .pre .0, at-kind (s .args .counts) (s .args .event) 15 (c .match .keys15) (s .pre .1 .fits) .1 .1 .0)
+    (s .pre .0, at-kind (s .args .counts) (s .args .event) 15 (c .match .keys15) (s .pre .1) .1 .1 .0)
 
 database-up-requires-3 : tie.Need-database-up-requires-3
 database-up-requires-3 c κs =
     let s = c .before .before in
-    (s .pre .0, at-kind (s .args .counts) (s .args .event) 16 (c .match .keys16) (s .pre .1 .fits) .1 .1 .1 .0)
+    (s .pre .0, at-kind (s .args .counts) (s .args .event) 16 (c .match .keys16) (s .pre .1) .1 .1 .1 .0)
 
 client-up-requires-4 : tie.Need-client-up-requires-4
 client-up-requires-4 c κs =
     let s = c .before .before in
-    (s .pre .0, at-kind (s .args .counts) (s .args .event) 17 (c .match .keys17) (s .pre .1 .fits) .0)
+    (s .pre .0, at-kind (s .args .counts) (s .args .event) 17 (c .match .keys17) (s .pre .1) .0)
 
 returns : tie.Need-returns
 unfolding partiesUp
@@ -163,12 +162,15 @@ returns-17 c = rw (c .before .match .keys17) (c .client-up4 .ensures ∙ sym (an
 
 returns-18 : tie.Need-returns-18
 unfolding partiesUp
-returns-18 c =
-    let s = c .before .before in
-    let r = c .match .rest in
-    let low = s .pre .1 .low in
-    let last : s .args .event .kind ≡ 18 = omega (arith, s .pre .1 .high, (next 17 (next 16 (next 15 (next 14 (next 13 (next 12 (next 11 (next 10 (next 9 (next 8 (next 7 (next 6 (next 5 (next 4 (next 3 (next 2 (next 1 low (r .0 .0 .0 .0 .0 .0 .0 .0 .0 .0 .0 .0 .0 .0 .0 .0 .1)) (r .0 .0 .0 .0 .0 .0 .0 .0 .0 .0 .0 .0 .0 .0 .0 .1)) (r .0 .0 .0 .0 .0 .0 .0 .0 .0 .0 .0 .0 .0 .0 .1)) (r .0 .0 .0 .0 .0 .0 .0 .0 .0 .0 .0 .0 .0 .1)) (r .0 .0 .0 .0 .0 .0 .0 .0 .0 .0 .0 .0 .1)) (r .0 .0 .0 .0 .0 .0 .0 .0 .0 .0 .0 .1)) (r .0 .0 .0 .0 .0 .0 .0 .0 .0 .0 .1)) (r .0 .0 .0 .0 .0 .0 .0 .0 .0 .1)) (r .0 .0 .0 .0 .0 .0 .0 .0 .1)) (r .0 .0 .0 .0 .0 .0 .0 .1)) (r .0 .0 .0 .0 .0 .0 .1)) (r .0 .0 .0 .0 .0 .1)) (r .0 .0 .0 .0 .1)) (r .0 .0 .0 .1)) (r .0 .0 .1)) (r .0 .1)) (r .1))) in
-    rw last
+returns-18 c = rw (c .match .keys18)
+
+returns-19 : tie.Need-returns-19
+unfolding partiesUp
+returns-19 c = rw (c .match .keys19)
+
+returns-20 : tie.Need-returns-20
+unfolding partiesUp
+returns-20 c = rw (no-line _ (c .match .rest))
 
 pub parties-up-spec : {M : Type 1} → statement M
 parties-up-spec =
@@ -208,4 +210,6 @@ parties-up-spec =
     returns-15
     returns-16
     returns-17
-    returns-18)
+    returns-18
+    returns-19
+    returns-20)

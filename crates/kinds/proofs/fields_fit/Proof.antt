@@ -1,115 +1,21 @@
 -- `kinds::fields_fit` meets its contract.
-use mathlib.Core.Path.{sym, _∙_}
-use borrow.Author.Tests.{not-true, not-false}
-use Rattle.lists.proofs.Choice.{and-true}
-use Rattle.kinds.proofs.Laws.{fields-limited}
+use native.Mathlib.Omega.{arith}
 use borrow.Author.Needs.{needs}
+use Rattle.kinds.proofs.Laws.{unknown-fits}
 use Rattle.kinds.proofs.fields_fit.Statement.{statement}
 use Rattle.kinds.proofs.fields_fit.Tie as tie
 
-limits-of-requires : tie.Need-limits-of-requires
-limits-of-requires c κs = search needs
-
-array-read-field-fits : tie.Need-array-read-field-fits
-array-read-field-fits c = search needs
-
-field-fits-requires : tie.Need-field-fits-requires
-field-fits-requires c κs = search needs
+line-fits-requires : tie.Need-line-fits-requires
+line-fits-requires c κs = search needs
 
 returns : tie.Need-returns
-returns c =
-    let limits = c .before .before in
-    let start = limits .before in
-    sym (fields-limited (start .args .counts) (start .args .event) _ (limits .limits-of .ensures) (start .pre .0) (start .pre .1)
-    ∙ rw (sym (c .before .field-fits .ensures) ∙ not-true _ (c .if1 .taken)))
-
-array-read-field-fits-2 : tie.Need-array-read-field-fits-2
-array-read-field-fits-2 c = search needs
-
-field-fits-requires-2 : tie.Need-field-fits-requires-2
-field-fits-requires-2 c κs = search needs
+returns c = search needs
 
 returns-2 : tie.Need-returns-2
-returns-2 c =
-    let limits = c .before .before .before .before in
-    let start = limits .before in
-    sym (fields-limited (start .args .counts) (start .args .event) _ (limits .limits-of .ensures) (start .pre .0) (start .pre .1)
-    ∙ rw (
-      sym (c .before .before .before .field-fits .ensures) ∙ not-false _ (c .before .before .if1 .left),
-      sym (c .before .field-fits2 .ensures) ∙ not-true _ (c .if2 .taken),
-    ))
-
-array-read-field-fits-3 : tie.Need-array-read-field-fits-3
-array-read-field-fits-3 c = search needs
-
-field-fits-requires-3 : tie.Need-field-fits-requires-3
-field-fits-requires-3 c κs = search needs
+returns-2 c = search needs
 
 returns-3 : tie.Need-returns-3
-returns-3 c =
-    let limits = c .before .before .before .before .before .before in
-    let start = limits .before in
-    sym (fields-limited (start .args .counts) (start .args .event) _ (limits .limits-of .ensures) (start .pre .0) (start .pre .1)
-    ∙ rw (
-      sym (c .before .before .before .before .before .field-fits .ensures) ∙ not-false _ (c .before .before .before .before .if1 .left),
-      sym (c .before .before .before .field-fits2 .ensures) ∙ not-false _ (c .before .before .if2 .left),
-      sym (c .before .field-fits3 .ensures) ∙ not-true _ (c .if3 .taken),
-    ))
-
-array-read-field-fits-4 : tie.Need-array-read-field-fits-4
-array-read-field-fits-4 c = search needs
-
-field-fits-requires-4 : tie.Need-field-fits-requires-4
-field-fits-requires-4 c κs = search needs
-
-returns-4 : tie.Need-returns-4
-returns-4 c =
-    let limits = c .before .before .before .before .before .before .before .before in
-    let start = limits .before in
-    sym (fields-limited (start .args .counts) (start .args .event) _ (limits .limits-of .ensures) (start .pre .0) (start .pre .1)
-    ∙ rw (
-      sym (c .before .before .before .before .before .before .before .field-fits .ensures) ∙ not-false _ (c .before .before .before .before .before .before .if1 .left),
-      sym (c .before .before .before .before .before .field-fits2 .ensures) ∙ not-false _ (c .before .before .before .before .if2 .left),
-      sym (c .before .before .before .field-fits3 .ensures) ∙ not-false _ (c .before .before .if3 .left),
-      sym (c .before .field-fits4 .ensures) ∙ not-true _ (c .if4 .taken),
-    ))
-
-array-read-field-fits-5 : tie.Need-array-read-field-fits-5
-array-read-field-fits-5 c = search needs
-
-field-fits-requires-5 : tie.Need-field-fits-requires-5
-field-fits-requires-5 c κs = search needs
-
-returns-5 : tie.Need-returns-5
-returns-5 c =
-    let limits = c .before .before .before .before .before .before .before .before .before in
-    let start = limits .before in
-    sym (fields-limited (start .args .counts) (start .args .event) _ (limits .limits-of .ensures) (start .pre .0) (start .pre .1)
-    ∙ rw (
-      sym (c .before .before .before .before .before .before .before .before .field-fits .ensures) ∙ not-false _ (c .before .before .before .before .before .before .before .if1 .left),
-      sym (c .before .before .before .before .before .before .field-fits2 .ensures) ∙ not-false _ (c .before .before .before .before .before .if2 .left),
-      sym (c .before .before .before .before .field-fits3 .ensures) ∙ not-false _ (c .before .before .before .if3 .left),
-      sym (c .before .before .field-fits4 .ensures) ∙ not-false _ (c .before .if4 .left),
-      sym (c .field-fits5 .ensures),
-    ) (and-true _))
+returns-3 c = unknown-fits (c .before .before .args .counts) (c .before .before .args .event) (λ low high. omega (arith, c .if1 .left))
 
 pub fields-fit-spec : {M : Type 1} → statement M
-fields-fit-spec =
-    tie.close
-    (tie.spec
-    limits-of-requires
-    array-read-field-fits
-    field-fits-requires
-    returns
-    array-read-field-fits-2
-    field-fits-requires-2
-    returns-2
-    array-read-field-fits-3
-    field-fits-requires-3
-    returns-3
-    array-read-field-fits-4
-    field-fits-requires-4
-    returns-4
-    array-read-field-fits-5
-    field-fits-requires-5
-    returns-5)
+fields-fit-spec = tie.close (tie.spec line-fits-requires returns returns-2 returns-3)
