@@ -1,5 +1,5 @@
 -- The five field tests of a record whose kind is known, by the limits of its kind; an unknown kind has no tests.
-use mathlib.Core.Path.{_≡_, refl, sym, ap, _∙_}
+use mathlib.Core.Path.{_≡_, refl, sym, ap, subst, _∙_}
 use mathlib.Core.Bool.{Bool, true, false, _&&_}
 use mathlib.Core.List.{List, [], _∷_, map}
 use mathlib.Core.Option.{some, Option·none-ne-some, Option·some-injective}
@@ -12,12 +12,12 @@ use Rattle.lists.specs.Tests.{every, inside}
 use Rattle.lists.proofs.Choice.{in-inside, inside-low, inside-high}
 use Rattle.protocol.specs.declared.Counts.{Counts}
 use Rattle.protocol.specs.declared.Event.{Event}
-use Rattle.protocol.specs.Events.{Kind, kinds, kindOf, largest, fits}
+use Rattle.protocol.specs.Events.{Kind, kinds, kindOf, largest}
 use Rattle.protocol.specs.Numbers.{fieldTests, fields}
 use Rattle.protocol.proofs.Records.{kind-known, kind-unknown}
-use Rattle.kinds.specs.Limits.{limitsOf, limitsAt}
+use Rattle.kinds.specs.Limits.{limitsOf, limitsAt, within}
 
--- the limits of a line of a table of kinds
+-- the limits of a line of a table of kinds, and what holds for each of its lines
 line-limits : (lines : List Kind) (i : ℕ) (kind : Kind) → getElem? lines i ≡ some kind → getD (map limitsOf lines) i [] ≡ limitsOf kind
 line-limits [] i kind e = absurd (Option·none-ne-some kind e)
 line-limits (line ∷ lines) zero kind e = ap limitsOf (Option·some-injective line kind e)
@@ -27,22 +27,40 @@ limits-at : (k : ℕ) (kind : Kind) → kindOf k ≡ some kind → getD (map lim
 limits-at zero kind e = absurd (Option·none-ne-some kind e)
 limits-at (suc i) kind e = let d : suc i - 1 ≡ i = omega arith in rw d (line-limits kinds i kind e)
 
--- the five tests, by the limits of the kind
+-- the five tests by the limits of a kind, with one largest value for each of the first four fields
 abbrev pub limited : Counts → List ℕ → Event → List Bool
 limited n limits e =
-    fits n (getD limits 0 0) (e .client)
-    ∷ fits n (getD limits 1 0) (e .attempt)
-    ∷ fits n (getD limits 2 0) (e .server)
-    ∷ fits n (getD limits 3 0) (e .database)
-    ∷ fits n (getD limits 4 0) (e .value)
+    within (getD limits 0 0) (n .clients) (e .client)
+    ∷ within (getD limits 1 0) (n .attempts) (e .attempt)
+    ∷ within (getD limits 2 0) (n .servers) (e .server)
+    ∷ within (getD limits 3 0) (n .databases) (e .database)
+    ∷ within (getD limits 4 0) (largest n (getD limits 4 0)) (e .value)
     ∷ []
 
-pub fields-limited : (n : Counts) (e : Event) (limits : List ℕ) → limits ≡ limitsAt (e .kind) → 1 ≤ e .kind → e .kind ≤ 18 → every (fields n e) ≡ every (limited n limits e)
-unfolding limitsAt
-fields-limited n e limits is low high =
-    let known = kind-known (e .kind) (in-inside 18 (e .kind) low high) in
-    ap (λ k. every (fieldTests n k e)) (known .1)
-    ∙ ap (λ l. every (limited n l e)) (sym (is ∙ limits-at (e .kind) (known .0) (known .1)))
+module _ (n : Counts) (e : Event) where
+  abbrev Limited : List Kind → Type 0
+  Limited [] = Unit {0}
+  Limited (kind ∷ lines) = (fieldTests n (some kind) e ≡ limited n (limitsOf kind) e) × Limited lines
+
+  all-limited : Limited kinds
+  all-limited = (refl, (refl, (refl, (refl, (refl, (refl, (refl, (refl, (refl, (refl, (refl, (refl, (refl, (refl, (refl, (refl, (refl, (refl, tt))))))))))))))))))
+
+  line-limited : (lines : List Kind) → Limited lines → (i : ℕ) (kind : Kind) → getElem? lines i ≡ some kind → fieldTests n (some kind) e ≡ limited n (limitsOf kind) e
+  line-limited [] all i kind is = absurd (Option·none-ne-some kind is)
+  line-limited (line ∷ lines) all zero kind is = subst (λ k. fieldTests n (some k) e ≡ limited n (limitsOf k) e) (Option·some-injective line kind is) (all .0)
+  line-limited (line ∷ lines) all (suc i) kind is = line-limited lines (all .1) i kind is
+
+  kind-limited : (k : ℕ) (kind : Kind) → kindOf k ≡ some kind → fieldTests n (some kind) e ≡ limited n (limitsOf kind) e
+  kind-limited zero kind is = absurd (Option·none-ne-some kind is)
+  kind-limited (suc i) kind is = line-limited kinds all-limited i kind is
+
+  pub fields-limited : (limits : List ℕ) → limits ≡ limitsAt (e .kind) → 1 ≤ e .kind → e .kind ≤ 18 → every (fields n e) ≡ every (limited n limits e)
+  unfolding limitsAt
+  fields-limited limits is low high =
+      let known = kind-known (e .kind) (in-inside 18 (e .kind) low high) in
+      ap (λ k. every (fieldTests n k e)) (known .1)
+      ∙ ap every (kind-limited (e .kind) (known .0) (known .1))
+      ∙ ap (λ l. every (limited n l e)) (sym (is ∙ limits-at (e .kind) (known .0) (known .1)))
 
 pub unknown-fits : (n : Counts) (e : Event) → (1 ≤ e .kind → e .kind ≤ 18 → ⊥) → true ≡ every (fields n e)
 unknown-fits n e out = rw (kind-unknown (e .kind) (not-T (inside 18 (e .kind)) (λ t. out (inside-low 18 (e .kind) t) (inside-high 18 (e .kind) t))))

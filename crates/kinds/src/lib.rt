@@ -2,29 +2,29 @@
 ghost use mathlib.Core.Path.{_≡_};
 ghost use Prim.Native.Nat.{_≤_};
 ghost use Rattle.lists.specs.Tests.{every};
-ghost use Rattle.protocol.specs.Events.{largest, fits};
+ghost use Rattle.protocol.specs.Events.{largest};
 ghost use Rattle.protocol.specs.Numbers.{fields};
-ghost use Rattle.kinds.specs.Limits.{limitsAt};
+ghost use Rattle.kinds.specs.Limits.{limitsAt, within};
 use protocol::Counts;
 use protocol::Event;
 
 // What a field may hold.
-const UNUSED: u16 = 0;
+const UNUSED: u8 = 0;
 
-const CLIENT: u16 = 1;
+const CLIENT: u8 = 1;
 
-const ATTEMPT: u16 = 2;
+const ATTEMPT: u8 = 2;
 
-const SERVER: u16 = 3;
+const SERVER: u8 = 3;
 
-const DATABASE: u16 = 4;
+const DATABASE: u8 = 4;
 
-const NUMBER: u16 = 5;
+const NUMBER: u8 = 5;
 
-const YES_OR_NO: u16 = 6;
+const YES_OR_NO: u8 = 6;
 
 // A line for each kind from 1 to 18: client, attempt, server, database, value.
-const KINDS: [[u16; 5]; 18] = [
+const KINDS: [[u8; 5]; 18] = [
     [CLIENT, UNUSED, UNUSED, UNUSED, NUMBER],
     [CLIENT, UNUSED, UNUSED, UNUSED, UNUSED],
     [CLIENT, ATTEMPT, SERVER, UNUSED, UNUSED],
@@ -46,7 +46,7 @@ const KINDS: [[u16; 5]; 18] = [
 ];
 
 // What the five fields of a kind may hold.
-fn limits_of(kind: u16) -> [u16; 5]
+fn limits_of(kind: u16) -> [u8; 5]
     requires { ⌜ (1 ≤ kind) × (kind ≤ 18) ⌝ }
     ensures { λ r. ⌜ r ≡ limitsAt kind ⌝ }
 {
@@ -55,7 +55,7 @@ fn limits_of(kind: u16) -> [u16; 5]
 }
 
 // The largest value of a field that may hold this.
-fn largest(counts: Counts, limit: u16) -> u16
+fn largest(counts: Counts, limit: u8) -> u16
     ensures { λ r. ⌜ r ≡ largest counts limit ⌝ }
 {
     match limit {
@@ -65,13 +65,13 @@ fn largest(counts: Counts, limit: u16) -> u16
         3 => counts.servers,
         4 => counts.databases,
         5 => 65535,
-        6..=65535 => 2,
+        6..=255 => 2,
     }
 }
 
-// Whether a field is 0 where it is unused, else from 1 to its largest value.
-fn field_fits(counts: Counts, limit: u16, value: u16) -> bool
-    ensures { λ r. ⌜ r ≡ fits counts limit value ⌝ }
+// Whether a field is 0 where it is unused, else from 1 to the most that it may hold.
+fn field_fits(limit: u8, most: u16, value: u16) -> bool
+    ensures { λ r. ⌜ r ≡ within limit most value ⌝ }
 {
     if limit == UNUSED {
         return value == 0;
@@ -79,28 +79,29 @@ fn field_fits(counts: Counts, limit: u16, value: u16) -> bool
     if value == 0 {
         return false;
     }
-    value <= largest(counts, limit)
+    value <= most
 }
 
-// Whether all five fields of an event of known kind are as the line of its kind says.
+// Whether all five fields of an event of known kind are as the line of its kind says. Each of the first four has one largest value in all lines
+// that use it, so only that of the last is looked up.
 fn line_fits(counts: Counts, event: Event) -> bool
     requires { ⌜ (1 ≤ event .kind) × (event .kind ≤ 18) ⌝ }
     ensures { λ r. ⌜ r ≡ every (fields counts event) ⌝ }
 {
     let limits = limits_of(event.kind);
-    if !field_fits(counts, limits[0], event.client) {
+    if !field_fits(limits[0], counts.clients, event.client) {
         return false;
     }
-    if !field_fits(counts, limits[1], event.attempt) {
+    if !field_fits(limits[1], counts.attempts, event.attempt) {
         return false;
     }
-    if !field_fits(counts, limits[2], event.server) {
+    if !field_fits(limits[2], counts.servers, event.server) {
         return false;
     }
-    if !field_fits(counts, limits[3], event.database) {
+    if !field_fits(limits[3], counts.databases, event.database) {
         return false;
     }
-    field_fits(counts, limits[4], event.value)
+    field_fits(limits[4], largest(counts, limits[4]), event.value)
 }
 
 // Whether the fields of an event are as the table of kinds says; it asks nothing of a kind that it has no line for.

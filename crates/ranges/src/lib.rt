@@ -1,17 +1,14 @@
 // Number 2: whether every cell of the table is in its range, by one loop over each kind of party and over the rows.
 ghost use mathlib.Core.Path.{_≡_};
-ghost use Prim.Native.Nat.{_+_, _<_};
-ghost use lib.Dec.{leb};
-ghost use lib.ListN.{length, getD};
+ghost use lib.ListN.{length};
 ghost use Rattle.lists.specs.Tests.{every, each};
-ghost use Rattle.masks.specs.Mask.{all};
 ghost use Rattle.protocol.specs.Agreement.{Id};
 ghost use Rattle.protocol.specs.Cells.{rowOf};
 ghost use Rattle.protocol.specs.Numbers.{serverTests, databaseTests, clientTests, rowTests, inRange};
 ghost use Rattle.table.specs.Layout.{rowLength, tableLength};
 ghost use Rattle.table.specs.Table.{view, rowView};
 ghost use Rattle.layout.specs.Ranged.{Ranged};
-ghost use Rattle.ranges.specs.Groups.{beginningTests, voteTests, endingTests};
+ghost use Rattle.ranges.specs.Groups.{numberTests, serverMaskTests, databaseMaskTests};
 use gates::COMMITTED;
 use gates::DECIDED;
 use gates::HEARD;
@@ -129,11 +126,10 @@ fn clients_fit(table: &[u16], counts: Counts) -> bool
 
 // ---- a row, lent by itself
 
-// Whether the owner, the outcome and the mask of servers that the request was sent to are in range.
-fn beginning_fits(row: &[u16], counts: Counts) -> bool
+// Whether the owner, the outcome and that the owner wrote are in range.
+fn numbers_fit(row: &[u16], counts: Counts) -> bool
     requires { ⌜ length (now row) ≡ rowLength counts ⌝ }
-    requires { ⌜ Ranged counts ⌝ }
-    ensures { λ r. ⌜ r ≡ every (beginningTests counts (rowView counts (now (row .entry)))) ⌝ }
+    ensures { λ r. ⌜ r ≡ every (numberTests counts (rowView counts (now (row .entry)))) ⌝ }
 {
     if row[OWNER] > counts.servers {
         return false;
@@ -141,62 +137,36 @@ fn beginning_fits(row: &[u16], counts: Counts) -> bool
     if row[OUTCOME] > 2 {
         return false;
     }
-    row[SENT] <= masks::all(counts.servers)
+    row[WRITTEN] <= 1
 }
 
-// Whether the masks of databases that voted and were heard are.
-fn votes_fit(row: &[u16], counts: Counts) -> bool
+// Whether the masks of servers are: what stands in any of them is in range exactly if each of them is.
+fn server_masks_fit(row: &[u16], counts: Counts) -> bool
     requires { ⌜ length (now row) ≡ rowLength counts ⌝ }
     requires { ⌜ Ranged counts ⌝ }
-    ensures { λ r. ⌜ r ≡ every (voteTests counts (rowView counts (now (row .entry)))) ⌝ }
+    ensures { λ r. ⌜ r ≡ every (serverMaskTests counts (rowView counts (now (row .entry)))) ⌝ }
 {
-    let databases = masks::all(counts.databases);
-    if row[VOTED] > databases {
-        return false;
-    }
-    if row[VOTED_YES] > databases {
-        return false;
-    }
-    if row[HEARD] > databases {
-        return false;
-    }
-    row[HEARD_YES] <= databases
+    row[SENT] | row[TERMINATING] <= masks::all(counts.servers)
 }
 
-// Whether the cells of its end are: that the owner wrote, who terminates, who decided and who committed.
-fn ending_fits(row: &[u16], counts: Counts) -> bool
+// Whether the masks of databases are, by what stands in any of them: the fixed ones, then the acknowledgements up to the row's end.
+fn database_masks_fit(row: &[u16], counts: Counts) -> bool
     requires { ⌜ length (now row) ≡ rowLength counts ⌝ }
     requires { ⌜ Ranged counts ⌝ }
-    ensures { λ r. ⌜ r ≡ every (endingTests counts (rowView counts (now (row .entry)))) ⌝ }
+    ensures { λ r. ⌜ r ≡ every (databaseMaskTests counts (rowView counts (now (row .entry)))) ⌝ }
 {
-    let databases = masks::all(counts.databases);
-    if row[WRITTEN] > 1 {
-        return false;
+    let mut seen = row[VOTED]
+        | row[VOTED_YES]
+        | row[HEARD]
+        | row[HEARD_YES]
+        | row[DECIDED]
+        | row[COMMITTED];
+    let mut at = COMMITTED + 1;
+    while at < row.len() {
+        seen = seen | row[at];
+        at += 1;
     }
-    if row[TERMINATING] > masks::all(counts.servers) {
-        return false;
-    }
-    if row[DECIDED] > databases {
-        return false;
-    }
-    row[COMMITTED] <= databases
-}
-
-// Whether the masks of acknowledgements are, those of the servers in order behind the cell `before`.
-fn acknowledgements_fit(row: &[u16], counts: Counts, before: usize) -> bool
-    requires { ⌜ before + counts .servers < length (now row) ⌝ }
-    requires { ⌜ Ranged counts ⌝ }
-    ensures { λ r. ⌜ r ≡ each (counts .servers) (λ i. leb (getD (now (row .entry)) (before + i) 0) (all (counts .databases))) ⌝ }
-{
-    let databases = masks::all(counts.databases);
-    let mut server = 1;
-    while server <= counts.servers {
-        if row[before + server as usize] > databases {
-            return false;
-        }
-        server += 1;
-    }
-    true
+    seen <= masks::all(counts.databases)
 }
 
 // Whether all cells of the row are in range; value and computed may hold any number.
@@ -205,66 +175,29 @@ fn row_fits(row: &[u16], counts: Counts) -> bool
     requires { ⌜ Ranged counts ⌝ }
     ensures { λ r. ⌜ r ≡ every (rowTests counts (rowView counts (now (row .entry)))) ⌝ }
 {
-    if !beginning_fits(row, counts) {
+    if !numbers_fit(row, counts) {
         return false;
     }
-    if !votes_fit(row, counts) {
+    if !server_masks_fit(row, counts) {
         return false;
     }
-    if !ending_fits(row, counts) {
-        return false;
-    }
-    if !acknowledgements_fit(row, counts, COMMITTED) {
-        return false;
-    }
-    let last_acked = COMMITTED + counts.servers as usize;
-    acknowledgements_fit(row, counts, last_acked)
+    database_masks_fit(row, counts)
 }
 
-// ---- the rows in the table
-
-// Whether the row of a result is in range.
-fn result_fits(table: &[u16], counts: Counts, client: u16, attempt: u16) -> bool
-    requires { ⌜ length (now table) ≡ tableLength counts ⌝ }
-    requires { ⌜ Ranged counts ⌝ }
-    requires { ⌜ Id (counts .clients) client ⌝ }
-    requires { ⌜ Id (counts .attempts) attempt ⌝ }
-    ensures { λ r. ⌜ r ≡ every (rowTests counts (rowOf (view counts (now (table .entry))) client attempt)) ⌝ }
-{
-    let start = layout::row_start(counts, client, attempt);
-    let end = start + layout::row_length(counts);
-    row_fits(&table[start..end], counts)
-}
-
-// Whether the rows of all attempts of a client are.
-fn attempts_fit(table: &[u16], counts: Counts, client: u16) -> bool
-    requires { ⌜ length (now table) ≡ tableLength counts ⌝ }
-    requires { ⌜ Ranged counts ⌝ }
-    requires { ⌜ Id (counts .clients) client ⌝ }
-    ensures { λ r. ⌜ r ≡ each (counts .attempts) (λ k. every (rowTests counts (rowOf (view counts (now (table .entry))) client k))) ⌝ }
-{
-    let mut attempt = 1;
-    while attempt <= counts.attempts {
-        if !result_fits(table, counts, client, attempt) {
-            return false;
-        }
-        attempt += 1;
-    }
-    true
-}
-
-// Whether those of all clients are.
+// Whether those of all rows are. They lie one behind the other up to the table's end, so each starts where the one before it ends.
 fn rows_fit(table: &[u16], counts: Counts) -> bool
     requires { ⌜ length (now table) ≡ tableLength counts ⌝ }
     requires { ⌜ Ranged counts ⌝ }
     ensures { λ r. ⌜ r ≡ each (counts .clients) (λ c. each (counts .attempts) (λ k. every (rowTests counts (rowOf (view counts (now (table .entry))) c k)))) ⌝ }
 {
-    let mut client = 1;
-    while client <= counts.clients {
-        if !attempts_fit(table, counts, client) {
+    let width = layout::row_length(counts);
+    let mut start = layout::row_start(counts, 1, 1);
+    while start < table.len() {
+        let end = start + width;
+        if !row_fits(&table[start..end], counts) {
             return false;
         }
-        client += 1;
+        start = end;
     }
     true
 }

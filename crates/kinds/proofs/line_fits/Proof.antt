@@ -77,19 +77,26 @@ returns-4 c =
 array-read-field-fits-5 : tie.Need-array-read-field-fits-5
 array-read-field-fits-5 c = search needs
 
+array-read-largest : tie.Need-array-read-largest
+array-read-largest c = search needs
+
+largest-requires : tie.Need-largest-requires
+largest-requires c κs = search needs
+
 field-fits-requires-5 : tie.Need-field-fits-requires-5
 field-fits-requires-5 c κs = search needs
 
 returns-5 : tie.Need-returns-5
 returns-5 c =
-    let limits = c .before .before .before .before .before .before .before .before .before in
+    let limits = c .before .before .before .before .before .before .before .before .before .before in
     let start = limits .before in
     sym (fields-limited (start .args .counts) (start .args .event) _ (limits .limits-of .ensures) (start .pre .0) (start .pre .1)
     ∙ rw (
-      sym (c .before .before .before .before .before .before .before .before .field-fits .ensures) ∙ not-false _ (c .before .before .before .before .before .before .before .if1 .left),
-      sym (c .before .before .before .before .before .before .field-fits2 .ensures) ∙ not-false _ (c .before .before .before .before .before .if2 .left),
-      sym (c .before .before .before .before .field-fits3 .ensures) ∙ not-false _ (c .before .before .before .if3 .left),
-      sym (c .before .before .field-fits4 .ensures) ∙ not-false _ (c .before .if4 .left),
+      sym (c .before .before .before .before .before .before .before .before .before .field-fits .ensures) ∙ not-false _ (c .before .before .before .before .before .before .before .before .if1 .left),
+      sym (c .before .before .before .before .before .before .before .field-fits2 .ensures) ∙ not-false _ (c .before .before .before .before .before .before .if2 .left),
+      sym (c .before .before .before .before .before .field-fits3 .ensures) ∙ not-false _ (c .before .before .before .before .if3 .left),
+      sym (c .before .before .before .field-fits4 .ensures) ∙ not-false _ (c .before .before .if4 .left),
+      sym (c .before .largest .ensures),
       sym (c .field-fits5 .ensures),
     ) (and-true _))
 
@@ -111,5 +118,7 @@ line-fits-spec =
     field-fits-requires-4
     returns-4
     array-read-field-fits-5
+    array-read-largest
+    largest-requires
     field-fits-requires-5
     returns-5)

@@ -1,10 +1,10 @@
--- `ranges::beginning_fits` meets its contract.
+-- `ranges::numbers_fit` meets its contract.
 use mathlib.Core.Path.{sym}
 use borrow.Author.Tests.{le-leb, lt-leb}
 use Rattle.lists.proofs.Choice.{and-true}
 use borrow.Author.Needs.{needs}
-use Rattle.ranges.proofs.beginning_fits.Statement.{statement}
-use Rattle.ranges.proofs.beginning_fits.Tie as tie
+use Rattle.ranges.proofs.numbers_fit.Statement.{statement}
+use Rattle.ranges.proofs.numbers_fit.Tie as tie
 
 shared-slice-read-if1 : tie.Need-shared-slice-read-if1
 shared-slice-read-if1 c = search needs
@@ -21,19 +21,11 @@ returns-2 c = rw (le-leb _ _ (c .before .before .if1 .left), lt-leb _ _ (c .if2 
 shared-slice-read-result : tie.Need-shared-slice-read-result
 shared-slice-read-result c = search needs
 
-all-requires : tie.Need-all-requires
-all-requires c κs = search needs
-
 returns-3 : tie.Need-returns-3
-returns-3 c =
-    rw (
-      le-leb _ _ (c .before .before .before .before .if1 .left),
-      le-leb _ _ (c .before .before .if2 .left),
-      sym (c .all .ensures),
-    ) (sym (and-true _))
+returns-3 c = rw (le-leb _ _ (c .before .before .before .if1 .left), le-leb _ _ (c .before .if2 .left)) (sym (and-true _))
 
-pub beginning-fits-spec : {M : Type 1} → statement M
-beginning-fits-spec =
+pub numbers-fit-spec : {M : Type 1} → statement M
+numbers-fit-spec =
     tie.close
     (tie.spec
     shared-slice-read-if1
@@ -41,5 +33,4 @@ beginning-fits-spec =
     shared-slice-read-if2
     returns-2
     shared-slice-read-result
-    all-requires
     returns-3)
