@@ -1,6 +1,6 @@
 -- How the parts of the one-event job make up its meaning: the table's numbers, then the record's, then the rule's.
 use mathlib.Core.Path.{_≡_, refl, sym, ap, _∙_}
-use mathlib.Core.Bool.{true, false, cond, _&&_}
+use mathlib.Core.Bool.{Bool, true, false, cond, _&&_}
 use mathlib.Core.List.{List}
 use mathlib.Core.Option.{Option, none, some}
 use Prim.Native.Nat.{ℕ, zero, suc, _≤_, _<_}
@@ -9,7 +9,7 @@ use borrow.Author.Tests.{eq-eqb, ne-eqb}
 use lib.Dec.{T, eqb, eqb→eq, not-T}
 use lib.ListN.{length}
 use Rattle.lists.specs.Tests.{every, inside}
-use Rattle.lists.proofs.Choice.{and-false, true-T, false-T, every-all, inside-low, inside-high}
+use Rattle.lists.proofs.Choice.{and-left, and-right, and-false, true-T, false-T, every-all, inside-low, inside-high, passed}
 use Rattle.protocol.specs.declared.Counts.{Counts}
 use Rattle.protocol.specs.declared.Event.{Event}
 use Rattle.protocol.specs.Events.{Kind, kindOf, recordOf}
@@ -19,7 +19,8 @@ use Rattle.protocol.proofs.Records.{kind-unknown, event-record}
 use Rattle.table.specs.Layout.{tableLength}
 use Rattle.table.specs.Table.{countsOf, view, sizeTests, freshTable, setAll}
 use Rattle.table.specs.Jobs.{Done, setUpNumber, setUp, tableNumber, numberOf, writesAt, after, applied}
-use Rattle.rules.specs.Rules.{ruleNumber, ofRow, Follows}
+use Rattle.layout.proofs.Laws.{tests-ranged}
+use Rattle.rules.specs.Rules.{Held, ruleNumber, ofRow, Follows}
 use Rattle.engine.specs.Engine.{followedAt, followed, upAt, partiesUp, answered}
 
 -- ---- numbers 1 and 2: the cells alone
@@ -52,6 +53,35 @@ wrong-counts n t f = ap (λ b. eqb (length t) (tableLength n) && b) f ∙ and-fa
 
 pub right-size : (n : Counts) (t : List ℕ) → length t ≡ tableLength n → every (countTests n) ≡ true → every (sizeTests n t) ≡ true
 right-size n t e f = rw (eq-eqb (length t) (tableLength n) e) f
+
+-- a table that has neither number is sound
+pub no-number : (t : List ℕ) (number : ℕ) → number ≡ tableNumber t → (number ≡ 1 → ⊥) → (number ≡ 2 → ⊥) → tableNumber t ≡ 0
+unfolding tableNumber
+no-number t number is f g =
+    at (every (sizeTests (countsOf t) t)) (inRange (countsOf t) (view (countsOf t) t)) (λ e. f (is ∙ e)) (λ e. g (is ∙ e))
+  where
+    number-of : Bool → Bool → ℕ
+    number-of size range = cond size (cond range 0 2) 1
+
+    at : (size range : Bool) → (number-of size range ≡ 1 → ⊥) → (number-of size range ≡ 2 → ⊥) → number-of size range ≡ 0
+    at false range f g = absurd (f refl)
+    at true false f g = absurd (g refl)
+    at true true f g = refl
+
+pub sound-held : (t : List ℕ) → tableNumber t ≡ 0 → Held (countsOf t) t
+unfolding tableNumber
+sound-held t e =
+    let n = countsOf t in
+    let (size, ranged) = passed (every (sizeTests n t)) (cond (inRange n (view n t)) 0 2) 1 (omega arith) e in
+    record {
+      long = eqb→eq (length t) (tableLength n) (and-left (eqb (length t) (tableLength n)) (every (countTests n)) size);
+      ranged = tests-ranged n (and-right (eqb (length t) (tableLength n)) (every (countTests n)) size);
+      range = passed (inRange n (view n t)) 0 2 (omega arith) ranged .0;
+    }
+
+pub has-header : (t : List ℕ) → tableNumber t ≡ 0 → 4 ≤ length t
+unfolding tableLength
+has-header t e = omega (arith, sound-held t e .long)
 
 -- on a sound table the job is what is given of the record
 pub goes-on : (t : List ℕ) (e : Event) → tableNumber t ≡ 0 → answered (countsOf t) t e ≡ applied t e

@@ -125,66 +125,9 @@ fn answer(table: &mut [u16], counts: Counts, event: Event) -> Answer
     follow(table, counts, event)
 }
 
-// ---- the first two public jobs
+// ---- 1 and 2: the table
 
-// Sets up a fresh table: refused, and no cell changed, where a count is outside its range or the table has another length.
-pub fn set_up(table: &mut [u16], counts: Counts) -> Answer
-    ensures { λ r. ⌜ record { number = answerNumber r; cells = now (table .exit) } ≡ setUp (now (table .entry)) counts ⌝ }
-{
-    if !layout::counts_fit(counts) {
-        return Answer::WrongSize;
-    }
-    if table.len() != layout::table_length(counts) {
-        return Answer::WrongSize;
-    }
-    fresh::make(table, counts);
-    Answer::Accepted
-}
-
-// Applies one event: the lowest number that applies, and no cell changed, or the rule's writes.
-pub fn apply(table: &mut [u16], event: Event) -> Answer
-    ensures { λ r. ⌜ record { number = answerNumber r; cells = now (table .exit) } ≡ applied (now (table .entry)) event ⌝ }
-{
-    if table.len() < 4 {
-        return Answer::WrongSize;
-    }
-    let counts = Counts {
-        clients: table[0],
-        servers: table[1],
-        databases: table[2],
-        attempts: table[3],
-    };
-    if !layout::counts_fit(counts) {
-        return Answer::WrongSize;
-    }
-    if table.len() != layout::table_length(counts) {
-        return Answer::WrongSize;
-    }
-    if !ranges::in_range(&table[..], counts) {
-        return Answer::OutOfRange;
-    }
-    answer(table, counts, event)
-}
-
-// ---- the same with numbers for answers, as other languages and the list job take them
-
-// The paper's number of an answer.
-pub fn number(answer: Answer) -> u16
-    ensures { λ r. ⌜ r ≡ answerNumber answer ⌝ }
-{
-    match answer {
-        Answer::Accepted => 0,
-        Answer::WrongSize => 1,
-        Answer::OutOfRange => 2,
-        Answer::UnknownKind => 3,
-        Answer::WrongField => 4,
-        Answer::PartyDown => 5,
-        Answer::NotSent => 6,
-        Answer::MustNot => 7,
-    }
-}
-
-// Numbers 1 and 2, asked of the table alone.
+// Numbers 1 and 2, asked of the table alone; 0 where it is sound.
 pub fn check(table: &[u16]) -> u16
     ensures { λ r. ⌜ r ≡ tableNumber (now (table .entry)) ⌝ }
 {
@@ -207,6 +150,60 @@ pub fn check(table: &[u16]) -> u16
         return 2;
     }
     0
+}
+
+// ---- the first two public jobs
+
+// Sets up a fresh table: refused, and no cell changed, where a count is outside its range or the table has another length.
+pub fn set_up(table: &mut [u16], counts: Counts) -> Answer
+    ensures { λ r. ⌜ record { number = answerNumber r; cells = now (table .exit) } ≡ setUp (now (table .entry)) counts ⌝ }
+{
+    if !layout::counts_fit(counts) {
+        return Answer::WrongSize;
+    }
+    if table.len() != layout::table_length(counts) {
+        return Answer::WrongSize;
+    }
+    fresh::make(table, counts);
+    Answer::Accepted
+}
+
+// Applies one event: the lowest number that applies, and no cell changed, or the rule's writes.
+pub fn apply(table: &mut [u16], event: Event) -> Answer
+    ensures { λ r. ⌜ record { number = answerNumber r; cells = now (table .exit) } ≡ applied (now (table .entry)) event ⌝ }
+{
+    let unsound = check(&table[..]);
+    if unsound == 1 {
+        return Answer::WrongSize;
+    }
+    if unsound == 2 {
+        return Answer::OutOfRange;
+    }
+    let counts = Counts {
+        clients: table[0],
+        servers: table[1],
+        databases: table[2],
+        attempts: table[3],
+    };
+    answer(table, counts, event)
+}
+
+// ---- the same with numbers for answers, as other languages and the list job take them
+
+// The paper's number of an answer.
+pub fn number(answer: Answer) -> u16
+    ensures { λ r. ⌜ r ≡ answerNumber answer ⌝ }
+{
+    match answer {
+        Answer::Accepted => 0,
+        Answer::WrongSize => 1,
+        Answer::OutOfRange => 2,
+        Answer::UnknownKind => 3,
+        Answer::WrongField => 4,
+        Answer::PartyDown => 5,
+        Answer::NotSent => 6,
+        Answer::MustNot => 7,
+    }
 }
 
 // One event, with its number for an answer.

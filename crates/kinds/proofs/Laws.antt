@@ -1,15 +1,15 @@
 -- The five field tests of a record whose kind is known, by the limits of its kind; an unknown kind has no tests.
 use mathlib.Core.Path.{_≡_, refl, sym, ap, subst, _∙_}
-use mathlib.Core.Bool.{Bool, true, false, _&&_}
+use mathlib.Core.Bool.{Bool, true, false, not, cond, _&&_, Bool·beq}
 use mathlib.Core.List.{List, [], _∷_, map}
 use mathlib.Core.Option.{some, Option·none-ne-some, Option·some-injective}
 use Prim.Native.Nat.{ℕ, zero, suc, _-_, _≤_}
 use native.Mathlib.Omega.{arith}
-use lib.Dec.{leb, not-T}
+use lib.Dec.{eqb, leb, eqb→eq, not-T}
 use lib.ListN.{getD, getElem?}
-use borrow.Author.Tests.{le-leb}
+use borrow.Author.Tests.{eq-eqb, le-leb}
 use Rattle.lists.specs.Tests.{every, inside}
-use Rattle.lists.proofs.Choice.{in-inside, inside-low, inside-high}
+use Rattle.lists.proofs.Choice.{true-T, false-T, in-inside, inside-low, inside-high}
 use Rattle.protocol.specs.declared.Counts.{Counts}
 use Rattle.protocol.specs.declared.Event.{Event}
 use Rattle.protocol.specs.Events.{Kind, kinds, kindOf, largest}
@@ -65,12 +65,23 @@ module _ (n : Counts) (e : Event) where
 pub unknown-fits : (n : Counts) (e : Event) → (1 ≤ e .kind → e .kind ≤ 18 → ⊥) → true ≡ every (fields n e)
 unknown-fits n e out = rw (kind-unknown (e .kind) (not-T (inside 18 (e .kind)) (λ t. out (inside-low 18 (e .kind) t) (inside-high 18 (e .kind) t))))
 
--- a field that is used: not 0, and at most its largest value
-pub zero-outside : (most field : ℕ) → field ≡ 0 → inside most field ≡ false
-zero-outside most field e = ap (λ x. leb 1 x && leb x most) e
+-- a field that is 0 where it is used, or not 0 where it is not, fits nowhere; any other does if it is at most its largest value
+filled : (most field : ℕ) (zero-field unused-field : Bool) → eqb field 0 ≡ zero-field
+    → (not (Bool·beq zero-field unused-field) ≡ true → false ≡ cond unused-field zero-field (inside most field))
+    × (not (Bool·beq zero-field unused-field) ≡ false → leb field most ≡ cond unused-field zero-field (inside most field))
+filled most field true true e = ((λ f. absurd (true-T false f)), (λ f. le-leb field most (omega (arith, eqb→eq field 0 (true-T _ e)))))
+filled most field true false e = ((λ f. sym (ap (λ x. leb 1 x && leb x most) (eqb→eq field 0 (true-T _ e)))), (λ f. absurd (false-T true f)))
+filled most field false true e = ((λ f. refl), (λ f. absurd (false-T true f)))
+filled most field false false e =
+    let used : field ≡ 0 → ⊥ = λ z. false-T true (sym (eq-eqb field 0 z) ∙ e) in
+    ((λ f. absurd (true-T false f)), (λ f. rw (le-leb 1 field (omega (arith, used)))))
 
-pub inside-most : (most field : ℕ) → (field ≡ 0 → ⊥) → inside most field ≡ leb field most
-inside-most most field ne = rw (le-leb 1 field (omega (arith, ne)))
+module _ (limit most field : ℕ) where
+  pub misfilled : not (Bool·beq (eqb field 0) (eqb limit 0)) ≡ true → false ≡ within limit most field
+  misfilled = filled most field (eqb field 0) (eqb limit 0) refl .0
+
+  pub well-filled : not (Bool·beq (eqb field 0) (eqb limit 0)) ≡ false → leb field most ≡ within limit most field
+  well-filled = filled most field (eqb field 0) (eqb limit 0) refl .1
 
 -- every limit behind the first six is that of yes or no
 pub largest-rest : (n : Counts) (limit : ℕ) → 6 ≤ limit → largest n limit ≡ 2

@@ -69,14 +69,11 @@ fn largest(counts: Counts, limit: u8) -> u16
     }
 }
 
-// Whether a field is 0 where it is unused, else from 1 to the most that it may hold.
+// Whether a field is 0 exactly where it is unused, and at most what it may hold.
 fn field_fits(limit: u8, most: u16, value: u16) -> bool
     ensures { λ r. ⌜ r ≡ within limit most value ⌝ }
 {
-    if limit == UNUSED {
-        return value == 0;
-    }
-    if value == 0 {
+    if (value == 0) != (limit == UNUSED) {
         return false;
     }
     value <= most
