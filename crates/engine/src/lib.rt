@@ -2,7 +2,6 @@
 ghost use mathlib.Core.Path.{_≡_};
 ghost use mathlib.Core.Bool.{true};
 ghost use lib.Dec.{T, eqb};
-ghost use lib.ListN.{length};
 ghost use Rattle.lists.specs.Tests.{every, inside};
 ghost use Rattle.protocol.specs.Cells.{serverUp, databaseUp, clientUp};
 ghost use Rattle.protocol.specs.Numbers.{fields};

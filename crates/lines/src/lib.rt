@@ -2,7 +2,7 @@
 ghost use mathlib.Core.Path.{_≡_};
 ghost use mathlib.Core.List.{[], _∷_};
 ghost use lib.ListN.{drop};
-ghost use Rattle.text.specs.Writing.{Page, puts, line};
+ghost use Rattle.text.specs.Writing.{puts, line};
 ghost use Rattle.lines.specs.Lines.{readCounts, readEvent, clientText, resultText};
 ghost use Rattle.lines.specs.Seen.{countsSeen, eventSeen};
 use protocol::Counts;

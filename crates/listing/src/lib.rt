@@ -10,7 +10,7 @@ ghost use Rattle.table.specs.Layout.{tableLength};
 ghost use Rattle.table.specs.Table.{view, rowView, freshTable};
 ghost use Rattle.table.specs.Jobs.{applied};
 ghost use Rattle.layout.specs.Ranged.{Ranged};
-ghost use Rattle.text.specs.Writing.{Page, puts, line, over};
+ghost use Rattle.text.specs.Writing.{puts, line, over};
 ghost use Rattle.listing.specs.Script.{script};
 ghost use Rattle.listing.specs.Listing.{longest, played, clientLine, resultLine, forEach, listed, listing};
 use gates::COMMITTED;

@@ -8,7 +8,7 @@ ghost use Rattle.masks.specs.Mask.{all};
 ghost use Rattle.registers.specs.declared.Decision.the-variants.{None, Abort};
 ghost use Rattle.protocol.specs.declared.Counts.{Counts as Setup};
 ghost use Rattle.protocol.specs.Cells.{owner, sent, acked, known, written};
-ghost use Rattle.protocol.specs.Rules.{calls, claims, votes, hears, offers, terminates, knows, requestRule, computeRule, prepareRule, voteRule, readyRule, writeRule, cleanRule, decideRule, ackRule};
+ghost use Rattle.protocol.specs.Rules.{calls, claims, votes, hears, offers, terminates, requestRule, computeRule, prepareRule, voteRule, readyRule, writeRule, cleanRule, decideRule, ackRule};
 ghost use Rattle.protocol.specs.Answers.{answerNumber};
 ghost use Rattle.table.specs.Layout.{slot};
 ghost use Rattle.table.specs.Table.{setFields, rowView};

@@ -4,7 +4,7 @@ ghost use mathlib.Core.List.{[], _∷_};
 ghost use Prim.Native.Nat.{_≤_};
 ghost use lib.Dec.{T};
 ghost use lib.ListN.{length};
-ghost use Rattle.lists.specs.Tests.{every, inside};
+ghost use Rattle.lists.specs.Tests.{inside};
 ghost use Rattle.masks.specs.Mask.{all};
 ghost use Rattle.protocol.specs.Cells.{owner, sent, ready, suspects, phase, delivered, rowOf, inRow};
 ghost use Rattle.protocol.specs.Rules.{calls, issueRule, timeoutRule, suspectRule, trustRule, resultRule, serverCrashRule, databaseCrashRule, clientCrashRule, recoverRule};

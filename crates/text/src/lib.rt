@@ -5,8 +5,8 @@ ghost use mathlib.Core.List.{[], _∷_, _++_};
 ghost use Prim.Native.Nat.{_≤_};
 ghost use lib.Dec.{leb};
 ghost use lib.ListN.{drop};
-ghost use Rattle.text.specs.Writing.{Page, puts, digitAt, decimal};
-ghost use Rattle.text.specs.Reading.{most, isDigit, Digits, digits, endedBy, readNumber};
+ghost use Rattle.text.specs.Writing.{puts, digitAt, decimal};
+ghost use Rattle.text.specs.Reading.{most, isDigit, digits, endedBy, readNumber};
 ghost use Rattle.text.specs.Seen.{numberSeen};
 
 // The bytes that separate numbers, end a line, and start the digits.

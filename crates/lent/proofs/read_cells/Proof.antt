@@ -1,7 +1,6 @@
 -- `lent::read_cells` meets its contract.
 use mathlib.Core.Path.{_≡_}
 use Prim.Native.Nat.{_≤_, _-_}
-use native.Mathlib.Omega.{arith}
 use lib.ListN.{length}
 use borrow.Author.Needs.{needs}
 use Rattle.lent.proofs.read_cells.Statement.{statement}
