@@ -1,6 +1,6 @@
 -- How the parts of the one-event job make up its meaning: the table's numbers, then the record's, then the rule's.
 use mathlib.Core.Path.{_≡_, refl, sym, ap, _∙_}
-use mathlib.Core.Bool.{Bool, true, false, cond, _&&_}
+use mathlib.Core.Bool.{Bool, true, false, cond, _&&_, and-false}
 use mathlib.Core.List.{List}
 use mathlib.Core.Option.{Option, none, some}
 use Prim.Native.Nat.{ℕ, zero, suc, _≤_, _<_}
@@ -9,7 +9,7 @@ use borrow.Author.Tests.{eq-eqb, ne-eqb}
 use lib.Dec.{T, eqb, eqb→eq, not-T}
 use lib.ListN.{length}
 use Rattle.lists.specs.Tests.{every, inside}
-use Rattle.lists.proofs.Choice.{and-left, and-right, and-false, true-T, false-T, every-all, inside-low, inside-high, passed}
+use Rattle.lists.proofs.Choice.{and-left, and-right, true-T, false-T, every-all, inside-low, inside-high, passed}
 use Rattle.protocol.specs.declared.Counts.{Counts}
 use Rattle.protocol.specs.declared.Event.{Event}
 use Rattle.protocol.specs.Events.{Kind, kindOf, recordOf}

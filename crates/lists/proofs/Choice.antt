@@ -1,8 +1,9 @@
 -- What a test chooses, and tests that all hold: the laws by which proofs split on a test and take a list of tests apart.
-use mathlib.Core.Bool.{Bool, true, false, not, cond, _&&_}
-use mathlib.Core.List.{List, [], _∷_}
-use mathlib.Core.Path.{_≡_, refl, ap₂}
-use Prim.Native.Nat.{ℕ, zero, suc, _≤_, _<_}
+use mathlib.Core.Bool.{Bool, true, false, not, cond, _&&_, and-true, and-assoc}
+use mathlib.Core.List.{List, [], _∷_, _++_}
+use mathlib.Core.Path.{_≡_, refl, sym, ap, ap₂, _∙_}
+use Prim.Native.Nat.{ℕ, zero, suc, _+_, _-_, _*_, _≤_, _<_}
+use native.Mathlib.Nat.{zero-mul, suc-mul}
 use native.Mathlib.Decide.{ℕ-discrete}
 use native.Mathlib.Omega.{arith}
 use lib.Dec.{T, leb, leb→le, le→leb}
@@ -57,6 +58,12 @@ pub T-false : (b : Bool) → T (not b) → b ≡ false
 T-false true t = absurd t
 T-false false t = refl
 
+-- two tests that hold alike
+pub same-answer : (a b : Bool) → (T a → T b) → (T b → T a) → a ≡ b
+same-answer true b f g = sym (T-true b (f tt))
+same-answer false true f g = absurd (g tt)
+same-answer false false f g = refl
+
 -- ---- a list of tests
 
 pub every-all : (l : List Bool) → T (every l) → All l
@@ -66,6 +73,11 @@ every-all (b ∷ bs) t = (and-left b (every bs) t, every-all bs (and-right b (ev
 pub all-every : (l : List Bool) → All l → T (every l)
 all-every [] t = tt
 all-every (b ∷ bs) t = both b (every bs) (t .0) (all-every bs (t .1))
+
+pub every-append : (l m : List Bool) → every (l ++ m) ≡ (every l && every m)
+every-append [] m = refl
+every-append (true ∷ l) m = every-append l m
+every-append (false ∷ l) m = refl
 
 -- ---- a test for each id from 1 to n
 
@@ -96,6 +108,24 @@ each-fails n p i low high e =
     (λ t h. absurd (rw e at (each-in n p t i low high)))
     (λ t h. refl) refl
 
+-- the ids up to a sum, and those of a grid: the first `across` of them belong to 1, the next to 2 and so on
+pub each-more : (p : ℕ → Bool) (a b : ℕ) → each (a + b) p ≡ (each a p && each b (λ i. p (a + i)))
+unfolding each
+each-more p a zero = let e : a + 0 ≡ a = omega arith in rw e (sym (and-true (each a p)))
+each-more p a (suc b) =
+    let e : a + suc b ≡ suc (a + b) = omega arith in
+    rw e (ap (λ x. x && p (suc (a + b))) (each-more p a b) ∙ and-assoc (each a p) (each b (λ i. p (a + i))) (p (suc (a + b))))
+
+pub each-grid : (p : ℕ → Bool) (across down : ℕ) → each (down * across) p ≡ each down (λ c. each across (λ k. p ((c - 1) * across + k)))
+unfolding each
+each-grid p across zero = ap (λ m. each m p) (zero-mul across)
+each-grid p across (suc down) =
+    let e : suc down * across ≡ down * across + across = suc-mul down across in
+    let f : suc down - 1 ≡ down = omega arith in
+    ap (λ m. each m p) e
+    ∙ each-more p (down * across) across
+    ∙ rw f (ap (λ b. b && each across (λ k. p (down * across + k))) (each-grid p across down))
+
 -- ---- an id from 1 to n
 
 pub inside-low : (n i : ℕ) → T (inside n i) → 1 ≤ i
@@ -116,13 +146,3 @@ passed false x k h e = absurd (omega arith)
 pub passes : (b : Bool) (x k : ℕ) → T b → x ≡ 0 → cond b x k ≡ 0
 passes true x k t e = e
 passes false x k t e = absurd t
-
--- ---- a test that another joins
-
-pub and-true : (b : Bool) → (b && true) ≡ b
-and-true true = refl
-and-true false = refl
-
-pub and-false : (b : Bool) → (b && false) ≡ false
-and-false true = refl
-and-false false = refl

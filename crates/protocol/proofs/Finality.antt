@@ -4,13 +4,14 @@ use mathlib.Core.Path.{_≡_, refl, sym, _∙_}
 use Prim.Native.Nat.{ℕ, _≤_}
 use native.Mathlib.Omega.{arith}
 use lib.Dec.{T}
+use Rattle.lists.proofs.Choice.{same-answer}
 use Rattle.masks.specs.Mask.{has}
 use Rattle.protocol.specs.declared.Counts.{Counts}
 use Rattle.protocol.specs.Cells.{State, Row, fresh, rowOf, phase, attempt, request, delivered, decided, committed}
 use Rattle.protocol.specs.Events.{Event}
 use Rattle.protocol.specs.Machine.{run, Accepted}
 use Rattle.protocol.specs.Finality.{SameClient, Final}
-use Rattle.protocol.proofs.Rows.{same-answer, RowInvariant, Grows}
+use Rattle.protocol.proofs.Rows.{RowInvariant, Grows}
 use Rattle.protocol.proofs.Agreement.{reached-fresh}
 use Rattle.protocol.proofs.Later.{Since, since-run, rests-run}
 

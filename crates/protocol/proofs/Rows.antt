@@ -1,9 +1,8 @@
 -- The row invariant, and what a row never loses.
-use mathlib.Core.Bool.{Bool, true, false}
-use mathlib.Core.Path.{_≡_, refl, sym, _∙_}
+use mathlib.Core.Path.{_≡_, _∙_}
 use Prim.Native.Nat.{ℕ, _≤_, _<_, _^_}
 use lib.Dec.{T}
-use Rattle.lists.proofs.Choice.{T-true}
+use Rattle.lists.proofs.Choice.{same-answer}
 use Rattle.masks.specs.Mask.{has}
 use Rattle.protocol.specs.declared.Counts.{Counts}
 use Rattle.protocol.specs.Cells.{owner, outcome, value, computed, sent, voted, votedYes, heardYes, terminating, decided, committed, acked, known, Row}
@@ -73,11 +72,6 @@ Answers r = record {
 
 abbrev pub RowInvariant : Counts → Row → Type 0
 RowInvariant n r = record { claim : Claim n r; votes : Votes n r; register : Register n r; decisions : Decisions r; answers : Answers r }
-
-pub same-answer : (a b : Bool) → (T a → T b) → (T b → T a) → a ≡ b
-same-answer true b f g = sym (T-true b (f tt))
-same-answer false true f g = absurd (g tt)
-same-answer false false f g = refl
 
 -- all that decide, decide alike
 pub alike : (n : Counts) (r : Row) → RowInvariant n r → (d e : ℕ) → T (has (r decided) d) → T (has (r decided) e)

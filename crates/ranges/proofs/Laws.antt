@@ -1,9 +1,9 @@
 -- What the range check leans on: a loop over ids, the tests of a party by its cells, those of a row in groups, masks seen together, and the rows in a row.
 use mathlib.Core.Path.{_≡_, refl, sym, ap, ap₂, _∙_}
-use mathlib.Core.Bool.{Bool, true, false, _&&_, Bool·beq}
-use mathlib.Core.List.{List, [], _∷_, _++_, map}
+use mathlib.Core.Bool.{Bool, true, false, _&&_, and-assoc, Bool·beq, and-true}
+use mathlib.Core.List.{List, [], _∷_, map}
 use Prim.Native.Nat.{ℕ, zero, suc, _+_, _-_, _*_, _^_, _≤_, _<_}
-use native.Mathlib.Nat.{add-sub-cancel-left, mul-le-mul-right, zero-mul, suc-mul}
+use native.Mathlib.Nat.{add-sub-cancel-left, mul-le-mul-right, suc-mul}
 use native.Mathlib.Omega.{arith}
 use lib.Bits.{bitOr, or-lt, or-add-and, and-le-l, and-le-r}
 use lib.Dec.{T, eqb, leb, leb→le, le→leb}
@@ -11,7 +11,7 @@ use lib.Pow.{le-ones, lt-of-le-ones}
 use lib.ListN.{length, getD, take, drop}
 use Rattle.lists.specs.Tests.{every, each, inside}
 use Rattle.lists.specs.Parts.{part}
-use Rattle.lists.proofs.Choice.{by-eq, and-left, and-right, both, T-true, every-all, all-every, each-same, each-fails, in-inside, and-true}
+use Rattle.lists.proofs.Choice.{by-eq, and-left, and-right, both, T-true, same-answer, every-all, all-every, every-append, each-same, each-fails, each-more, each-grid, in-inside}
 use Rattle.protocol.specs.declared.Counts.{Counts}
 use Rattle.protocol.specs.Agreement.{Id}
 use Rattle.protocol.specs.Cells.{Row, serverUp, databaseUp, clientUp, acked, known, rowOf}
@@ -75,15 +75,9 @@ module _ (n : Counts) (t : List ℕ) (i up : ℕ) where
 
 -- ---- the tests of a row, in three groups
 
-same : (a b : Bool) → (T a → T b) → (T b → T a) → a ≡ b
-same true true f g = refl
-same true false f g = absurd (f tt)
-same false true f g = absurd (g tt)
-same false false f g = refl
-
 pub row-grouped : (n : Counts) (r : Row)
     → every (rowTests n r) ≡ every (every (numberTests n r) ∷ every (serverMaskTests n r) ∷ every (databaseMaskTests n r) ∷ [])
-row-grouped n r = same (every (rowTests n r)) (every groups) apart together
+row-grouped n r = same-answer (every (rowTests n r)) (every groups) apart together
   where
     groups : List Bool
     groups = every (numberTests n r) ∷ every (serverMaskTests n r) ∷ every (databaseMaskTests n r) ∷ []
@@ -111,7 +105,7 @@ row-grouped n r = same (every (rowTests n r)) (every groups) apart together
 
 or-fits : (d a b : ℕ) → leb (bitOr a b) (all d) ≡ (leb a (all d) && leb b (all d))
 unfolding all
-or-fits d a b = same (leb (bitOr a b) most) (leb a most && leb b most)
+or-fits d a b = same-answer (leb (bitOr a b) most) (leb a most && leb b most)
     (λ t. let h = leb→le (bitOr a b) most t in
     both (leb a most) (leb b most) (le→leb a most (omega (arith, or-add-and a b, and-le-r a b))) (le→leb b most (omega (arith, or-add-and a b, and-le-l a b))))
     (λ t. le→leb (bitOr a b) most (le-ones d (or-lt d a b
@@ -120,10 +114,6 @@ or-fits d a b = same (leb (bitOr a b) most) (leb a most && leb b most)
   where
     most : ℕ
     most = 2 ^ d - 1
-
-and-assoc : (a b c : Bool) → ((a && b) && c) ≡ (a && (b && c))
-and-assoc true b c = refl
-and-assoc false b c = refl
 
 -- a mask and those that follow it
 abbrev joined : ℕ → List ℕ → ℕ
@@ -160,18 +150,6 @@ seen-next {l} d {fixed} {at} {seen} so h =
           ∙ ap (λ b. b && leb (getD l at 0) (all d)) (so .fit)
           ∙ rw (e, f) (and-assoc (leb fixed (all d)) (each (at - 13) (λ i. leb (getD l (12 + i) 0) (all d))) (leb (getD l at 0) (all d)));
     }
-
-every-append : (l m : List Bool) → every (l ++ m) ≡ (every l && every m)
-every-append [] m = refl
-every-append (true ∷ l) m = every-append l m
-every-append (false ∷ l) m = refl
-
-each-more : (p : ℕ → Bool) (a b : ℕ) → each (a + b) p ≡ (each a p && each b (λ i. p (a + i)))
-unfolding each
-each-more p a zero = let e : a + 0 ≡ a = omega arith in rw e (sym (and-true (each a p)))
-each-more p a (suc b) =
-    let e : a + suc b ≡ suc (a + b) = omega arith in
-    rw e (ap (λ x. x && p (suc (a + b))) (each-more p a b) ∙ and-assoc (each a p) (each b (λ i. p (a + i))) (p (suc (a + b))))
 
 module _ (n : Counts) (l : List ℕ) where
   abbrev pub fits : ℕ → Bool
@@ -268,16 +246,6 @@ module _ (n : Counts) (t : List ℕ) where
         (λ ne. absurd (omega (arith, long, row-ends (omega (arith, so .most, ne)))))
 
 -- the rows by number are those of the clients' attempts
-each-grid : (p : ℕ → Bool) (across down : ℕ) → each (down * across) p ≡ each down (λ c. each across (λ k. p ((c - 1) * across + k)))
-unfolding each
-each-grid p across zero = ap (λ m. each m p) (zero-mul across)
-each-grid p across (suc down) =
-    let e : suc down * across ≡ down * across + across = suc-mul down across in
-    let f : suc down - 1 ≡ down = omega arith in
-    ap (λ m. each m p) e
-    ∙ each-more p (down * across) across
-    ∙ rw f (ap (λ b. b && each across (λ k. p (down * across + k))) (each-grid p across down))
-
 pub rows-are : (n : Counts) (t : List ℕ) → length t ≡ tableLength n
     → each (n .clients * n .attempts) (rowTest n t) ≡ each (n .clients) (λ c. each (n .attempts) (λ k. every (rowTests n (rowOf (view n t) c k))))
 unfolding rowStart rowsBefore

@@ -1,7 +1,7 @@
 -- `engine::parties_up` meets its contract.
 use mathlib.Core.Path.{sym, _∙_}
 use Rattle.rules.proofs.Laws.{at-kind}
-use Rattle.lists.proofs.Choice.{and-true}
+use mathlib.Core.Bool.{and-true}
 use Rattle.engine.proofs.Laws.{no-line}
 use Rattle.engine.specs.Engine.{partiesUp}
 use Rattle.engine.proofs.parties_up.Statement.{statement}

@@ -1,7 +1,7 @@
 -- `kinds::line_fits` meets its contract.
 use mathlib.Core.Path.{sym, _∙_}
 use borrow.Author.Tests.{not-true, not-false}
-use Rattle.lists.proofs.Choice.{and-true}
+use mathlib.Core.Bool.{and-true}
 use Rattle.kinds.proofs.Laws.{fields-limited}
 use borrow.Author.Needs.{needs}
 use Rattle.kinds.proofs.line_fits.Statement.{statement}

@@ -1,7 +1,7 @@
 -- `layout::counts_fit` meets its contract.
 use mathlib.Core.Path.{sym, _∙_}
 use borrow.Author.Tests.{not-true, not-false}
-use Rattle.lists.proofs.Choice.{and-true}
+use mathlib.Core.Bool.{and-true}
 use borrow.Author.Needs.{needs}
 use Rattle.layout.proofs.counts_fit.Statement.{statement}
 use Rattle.layout.proofs.counts_fit.Tie as tie

@@ -1,7 +1,7 @@
 -- `ranges::numbers_fit` meets its contract.
 use mathlib.Core.Path.{sym}
 use borrow.Author.Tests.{le-leb, lt-leb}
-use Rattle.lists.proofs.Choice.{and-true}
+use mathlib.Core.Bool.{and-true}
 use borrow.Author.Needs.{needs}
 use Rattle.ranges.proofs.numbers_fit.Statement.{statement}
 use Rattle.ranges.proofs.numbers_fit.Tie as tie

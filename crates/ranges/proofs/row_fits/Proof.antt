@@ -1,7 +1,7 @@
 -- `ranges::row_fits` meets its contract.
 use mathlib.Core.Path.{sym, _∙_}
 use borrow.Author.Tests.{not-true, not-false}
-use Rattle.lists.proofs.Choice.{and-true}
+use mathlib.Core.Bool.{and-true}
 use Rattle.table.specs.Table.{rowView}
 use Rattle.ranges.proofs.Laws.{row-grouped}
 use borrow.Author.Needs.{needs}

@@ -1,6 +1,6 @@
 -- `rows::says` meets its contract.
 use mathlib.Core.Path.{sym}
-use Rattle.lists.proofs.Choice.{and-false, and-true}
+use mathlib.Core.Bool.{and-false, and-true}
 use Rattle.rows.proofs.says.Statement.{statement}
 use Rattle.rows.proofs.says.Tie as tie
 
