@@ -1,10 +1,10 @@
 -- Demand 2: the accepted events of a list do what the rules say, and what they lead to keeps the paper's A.1 to A.3, V.1 and V.2.
-use mathlib.Core.Path.{_≡_, refl, sym, ap₂, subst}
+use mathlib.Core.Path.{_≡_, refl, sym, ap, ap₂, subst, _∙_}
 use mathlib.Core.List.{List, [], _∷_, map, head-eq-of-cons-eq, tail-eq-of-cons-eq}
 use mathlib.Core.Logic.{_⊎_}
 use Prim.Native.Nat.{ℕ}
 use lib.Dec.{T}
-use lib.ListN.{getD}
+use lib.ListN.{length, getD}
 use Rattle.protocol.specs.declared.Counts.{Counts}
 use Rattle.protocol.specs.declared.Event.{Event as Record}
 use Rattle.protocol.specs.Cells.{Name, exists}
@@ -22,6 +22,7 @@ use Rattle.table.specs.Table.{countsOf, view, setAll, freshTable}
 use Rattle.table.specs.Jobs.{applied}
 use Rattle.table.proofs.Runs.{record-does}
 use Rattle.table.proofs.Changes.{changes}
+use Rattle.table.proofs.View.{length-setAll}
 use Rattle.promises.specs.Lists.{Accepted, after}
 use Rattle.promises.proofs.Transfer.{from-fresh, both-from-fresh}
 
@@ -34,14 +35,16 @@ accepted-does t r accepted =
     let (e, does) = record-does (countsOf t) t r refl accepted in
     (e, does .same, does .writes, does .leads)
 
--- "only the row of one result and the party cells named below change at an event": each cell is as it was, or one of those
+-- "only the row of one result and the party cells named below change at an event": there are as many cells, and each is as it was, or one of those
 pub only-these-change : (t : List ℕ) (r : Record) → applied t r .number ≡ 0
     → (e : Event) × (recordOf e ≡ r)
+    × (length (applied t r .cells) ≡ length t)
     × ((p : ℕ) → (getD (applied t r .cells) p 0 ≡ getD t p 0)
     ⊎ ((m : Name) × T (exists (countsOf t) m) × MayChange (view (countsOf t) t) e m × (p ≡ place (countsOf t) m)))
 only-these-change t r accepted =
     let (e, does) = record-does (countsOf t) t r refl accepted in
-    (e, does .same, changes (countsOf t) t r e does)
+    let writes = rule (countsOf t) (view (countsOf t) t) e .writes in
+    (e, does .same, ap length (does .writes) ∙ length-setAll (countsOf t) t writes, changes (countsOf t) t r e does)
 
 -- a list of records stands for one list of events only
 pub one-reading : (events others : List Event) → map recordOf events ≡ map recordOf others → events ≡ others
