@@ -6,7 +6,7 @@ repository=$(CDPATH='' cd -- "$(dirname "${BASH_SOURCE[0]}")/.." && pwd -P)
 # say WORD...: a line on standard error; that it cannot be written is no reason to stop
 say() { printf '%s: %s\n' "${0##*/}" "$*" >&2 2>/dev/null || true; }
 
-# The kit's folder. Without rt it is that of the last build here, because what is built can be run all the same.
+# The kit's folder, which rt tells at once. Without rt it is that of the last build here, because what is built can be run all the same.
 last_kit=$repository/target/built/kit.folder
 if [ -n "${RATTLE_HOME:-}" ]; then
     kit=$RATTLE_HOME

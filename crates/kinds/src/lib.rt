@@ -2,9 +2,10 @@
 ghost use mathlib.Core.Path.{_≡_};
 ghost use Prim.Native.Nat.{_≤_};
 ghost use Rattle.lists.specs.Tests.{every};
-ghost use Rattle.protocol.specs.Events.{largest};
+ghost use Rattle.protocol.specs.declared.Counts.{Counts};
+ghost use Rattle.protocol.specs.Events.{fits};
 ghost use Rattle.protocol.specs.Numbers.{fields};
-ghost use Rattle.kinds.specs.Limits.{limitsAt, within};
+ghost use Rattle.kinds.specs.Limits.{limitsAt, mostOf};
 use protocol::Counts;
 use protocol::Event;
 
@@ -54,51 +55,53 @@ fn limits_of(kind: u16) -> [u8; 5]
     KINDS[line]
 }
 
-// The largest value of a field that may hold this.
-fn largest(counts: Counts, limit: u8) -> u16
-    ensures { λ r. ⌜ r ≡ largest counts limit ⌝ }
+// The largest value of a field, by what it may hold.
+fn largest(counts: Counts) -> [u16; 7]
+    ensures { λ r. ⌜ r ≡ mostOf counts ⌝ }
 {
-    match limit {
-        0 => 0,
-        1 => counts.clients,
-        2 => counts.attempts,
-        3 => counts.servers,
-        4 => counts.databases,
-        5 => 65535,
-        6..=255 => 2,
-    }
+    [
+        0,
+        counts.clients,
+        counts.attempts,
+        counts.servers,
+        counts.databases,
+        65535,
+        2,
+    ]
 }
 
-// Whether a field is 0 exactly where it is unused, and at most what it may hold.
-fn field_fits(limit: u8, most: u16, value: u16) -> bool
-    ensures { λ r. ⌜ r ≡ within limit most value ⌝ }
+// Whether a field is 0 exactly where it is unused, and at most its largest value.
+fn field_fits(most: &[u16; 7], limit: u8, value: u16) -> bool
+    requires { ⌜ limit ≤ 6 ⌝ }
+    ensures { λ r. ⌜ ((n : Counts) → now (most .entry) ≡ mostOf n → r ≡ fits n limit value) ⌝ }
 {
     if (value == 0) != (limit == UNUSED) {
         return false;
     }
-    value <= most
+    let at = limit as usize;
+    value <= most[at]
 }
 
-// Whether all five fields of an event of known kind are as the line of its kind says. Each of the first four has one largest value in all lines
-// that use it, so only that of the last is looked up.
+// Whether all five fields of an event of known kind are as the line of its kind says.
 fn line_fits(counts: Counts, event: Event) -> bool
     requires { ⌜ (1 ≤ event .kind) × (event .kind ≤ 18) ⌝ }
     ensures { λ r. ⌜ r ≡ every (fields counts event) ⌝ }
 {
     let limits = limits_of(event.kind);
-    if !field_fits(limits[0], counts.clients, event.client) {
+    let most = largest(counts);
+    if !field_fits(&most, limits[0], event.client) {
         return false;
     }
-    if !field_fits(limits[1], counts.attempts, event.attempt) {
+    if !field_fits(&most, limits[1], event.attempt) {
         return false;
     }
-    if !field_fits(limits[2], counts.servers, event.server) {
+    if !field_fits(&most, limits[2], event.server) {
         return false;
     }
-    if !field_fits(limits[3], counts.databases, event.database) {
+    if !field_fits(&most, limits[3], event.database) {
         return false;
     }
-    field_fits(limits[4], largest(counts, limits[4]), event.value)
+    field_fits(&most, limits[4], event.value)
 }
 
 // Whether the fields of an event are as the table of kinds says; it asks nothing of a kind that it has no line for.

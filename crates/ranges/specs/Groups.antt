@@ -1,4 +1,4 @@
--- The tests of a row in three groups: what one function asks.
+-- The tests of a row in three groups: what each of three functions asks.
 use mathlib.Core.Bool.{Bool}
 use mathlib.Core.List.{List, [], _∷_}
 use lib.Dec.{leb}
