@@ -28,12 +28,12 @@ partyCells (client-crashes c) = clientUp c ∷ []
 partyCells (database-recovers d) = databaseUp d ∷ ready d ∷ []
 
 -- the rows that an event may change: none, or that of one result
-pub data Rows : Type 0 where
-  noRow : Rows
-  oneRow : (client attempt : ℕ) → Rows
+pub data ChangedRow : Type 0 where
+  noRow : ChangedRow
+  oneRow : (client attempt : ℕ) → ChangedRow
 
 -- it need not be the row that the event names: a timeout's is that of the client's current attempt, a result's that of the next one
-abbrev pub rowChanged : State → Event → Rows
+abbrev pub rowChanged : State → Event → ChangedRow
 rowChanged s (issue c v) = oneRow c 1
 rowChanged s (timeout c) = oneRow c (s (attempt c))
 rowChanged s (request-arrives c k i) = oneRow c k
@@ -59,7 +59,7 @@ abbrev pub Among : Name → List Name → Type 0
 Among m [] = ⊥
 Among m (k ∷ ks) = (m ≡ k) ⊎ Among m ks
 
-abbrev pub InRow : Name → Rows → Type 0
+abbrev pub InRow : Name → ChangedRow → Type 0
 InRow m noRow = ⊥
 InRow m (oneRow c k) = (f : Field) × (m ≡ row c k f)
 
