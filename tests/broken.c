@@ -186,6 +186,8 @@ struct vrolkant_ran vrolkant_run(uint16_t *table, size_t length, const struct vr
     struct counts counts;
     struct vrolkant_ran ran = {0, look_over(table, length, &counts)};
     if (broken("empty-list-unchecked") && count == 0) ran.refusal = PEER_ACCEPTED;
+    if (broken("list-unchecked") && ran.refusal == PEER_OUT_OF_RANGE) return (struct vrolkant_ran){count, PEER_ACCEPTED};
+    if (broken("check-loses-its-number") && ran.refusal == PEER_OUT_OF_RANGE) ran.refusal = PEER_WRONG_SIZE;
     while (ran.refusal == PEER_ACCEPTED && ran.accepted < count) {
         const struct vrolkant_event *next = &events[ran.accepted];
         struct peer_event event = {next->kind, next->client, next->attempt, next->server, next->database, next->value};

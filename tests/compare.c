@@ -123,13 +123,25 @@ uint16_t compare_apply(struct pair *pair, const struct peer_event *event) {
     return by_peer;
 }
 
+/* The list as paper 01 words it: event by event, 1 and 2 asked at each, and of an empty list too. The proved list job asks
+   them once, and has to give the same. */
+static struct peer_ran run_by_events(uint16_t *table, size_t length, const struct peer_event *events, size_t count) {
+    struct counts counts;
+    struct peer_ran ran = {0, look_over(table, length, &counts)};
+    while (ran.refusal == PEER_ACCEPTED && ran.accepted < count) {
+        ran.refusal = peer_apply(table, length, &events[ran.accepted]);
+        if (ran.refusal == PEER_ACCEPTED) ran.accepted++;
+    }
+    return ran;
+}
+
 void compare_run(struct pair *pair, const struct peer_event *events, size_t count) {
     static struct vrolkant_event list[LONGEST_LIST];
     for (size_t place = 0; place < count; place++)
         list[place] = (struct vrolkant_event){events[place].kind,   events[place].client,   events[place].attempt,
                                               events[place].server, events[place].database, events[place].value};
     keep_before(pair);
-    struct peer_ran by_peer = peer_run(cells_of(pair), pair->length, events, count);
+    struct peer_ran by_peer = run_by_events(cells_of(pair), pair->length, events, count);
     struct vrolkant_ran by_engine = vrolkant_run(engine_cells(pair), pair->length, list, count);
     figures.lists++;
     if (by_engine.accepted != by_peer.accepted || by_engine.refusal != by_peer.refusal || !same_cells(pair)) {

@@ -265,23 +265,29 @@ static bool actor_is_up(unsigned actor, const struct scene *scene) {
     }
 }
 
-uint16_t peer_apply(uint16_t *table, size_t length, const struct peer_event *event) {
-    struct scene scene = {.event = *event, .table = table};
-    uint16_t unsound = look_over(table, length, &scene.counts);
-    if (unsound) return unsound;
+/* Applies an event to a table that was seen to be sound, with the counts of its header. */
+static uint16_t apply_sound(uint16_t *table, const struct counts *counts, const struct peer_event *event) {
+    struct scene scene = {.counts = *counts, .event = *event, .table = table};
     if (event->kind < PEER_KIND_ISSUE || event->kind > PEER_LAST_KIND) return PEER_UNKNOWN_KIND;
     const struct kind *kind = &kinds[event->kind];
-    if (!fields_fit(kind, event, &scene.counts)) return PEER_WRONG_FIELD;
+    if (!fields_fit(kind, event, counts)) return PEER_WRONG_FIELD;
     set_scene(&scene, kind->fields);
     if (!actor_is_up(kind->actor, &scene)) return PEER_PARTY_DOWN;
     return kind->rule(&scene);
+}
+
+uint16_t peer_apply(uint16_t *table, size_t length, const struct peer_event *event) {
+    struct counts counts;
+    uint16_t unsound = look_over(table, length, &counts);
+    if (unsound) return unsound;
+    return apply_sound(table, &counts, event);
 }
 
 struct peer_ran peer_run(uint16_t *table, size_t length, const struct peer_event *events, size_t count) {
     struct counts counts;
     struct peer_ran ran = {.accepted = 0, .refusal = look_over(table, length, &counts)};
     while (ran.refusal == PEER_ACCEPTED && ran.accepted < count) {
-        ran.refusal = peer_apply(table, length, &events[ran.accepted]);
+        ran.refusal = apply_sound(table, &counts, &events[ran.accepted]);
         if (ran.refusal == PEER_ACCEPTED) ran.accepted++;
     }
     return ran;

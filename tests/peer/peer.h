@@ -66,7 +66,8 @@ uint16_t peer_set_up(uint16_t *table, size_t length, uint16_t clients, uint16_t 
 
 uint16_t peer_apply(uint16_t *table, size_t length, const struct peer_event *event);
 
-/* Applies events in order up to the first refusal. */
+/* Applies events in order up to the first refusal. The table is looked over once: an accepted event leaves a sound one
+   sound. */
 struct peer_ran peer_run(uint16_t *table, size_t length, const struct peer_event *events, size_t count);
 
 /* Writes the listing of an input and gives its length; what does not fit into the room is left out. */

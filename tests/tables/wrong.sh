@@ -245,7 +245,7 @@ wrong 2-clients-but-the-last table.c 'client <= counts->clients; client++) {' 'c
 wrong unsound-but-changed engine.c 'if (unsound) return unsound' 'if (unsound) return length > 0 ? table[length - 1] ^= 1 : 0, unsound'
 wrong unknown-but-changed engine.c 'return PEER_UNKNOWN_KIND' 'return table[HEADER_CELLS] ^= 1, PEER_UNKNOWN_KIND'
 wrong wrong-field-but-changed engine.c 'return PEER_WRONG_FIELD' 'return table[HEADER_CELLS] ^= 1, PEER_WRONG_FIELD'
-wrong down-but-changed engine.c 'return PEER_PARTY_DOWN' 'return table[length - 1] ^= 1, PEER_PARTY_DOWN'
+wrong down-but-changed engine.c 'return PEER_PARTY_DOWN' 'return table[length_of(counts) - 1] ^= 1, PEER_PARTY_DOWN'
 wrong unheard-but-written engine.c 'row[ROW_HEARD] != all) return PEER_MUST_NOT' 'row[ROW_HEARD] != all) return row[ROW_WRITTEN] = 1, PEER_MUST_NOT'
 wrong not-sent-but-known engine.c 'if (!has(row[sent_to(server)], database)) return PEER_NOT_SENT' \
     'if (!has(row[sent_to(server)], database)) return add(&row[known_by(&scene->counts, server)], database), PEER_NOT_SENT'
@@ -254,13 +254,15 @@ wrong writes-before-the-table engine.c 'scene->database[DATABASE_UP] = 0' 'scene
 
 # The list: an empty one asks 1 and 2; it counts what is accepted, stops at the refusal, and leaves what was accepted.
 wrong list-unasked-where-empty engine.c '.refusal = look_over(table, length, &counts)' '.refusal = count ? look_over(table, length, &counts) : 0'
+wrong list-unasked engine.c '.refusal = look_over(table, length, &counts)' '.refusal = (look_over(table, length, &counts), PEER_ACCEPTED)'
+wrong list-loses-the-number engine.c '.refusal = look_over(table, length, &counts)' '.refusal = look_over(table, length, &counts) ? PEER_WRONG_SIZE : PEER_ACCEPTED'
 wrong list-counts-the-refused engine.c 'if (ran.refusal == PEER_ACCEPTED) ran.accepted++' 'ran.accepted++'
-wrong list-pretends-the-rest engine.c 'ran.refusal = peer_apply' 'if (ran.accepted == 0) ran.refusal = peer_apply'
+wrong list-pretends-the-rest engine.c 'ran.refusal = apply_sound' 'if (ran.accepted == 0) ran.refusal = apply_sound'
 wrong list-goes-on-behind-the-refusal engine.c 'if (ran.refusal == PEER_ACCEPTED) ran.accepted++' \
-    'if (ran.refusal == PEER_ACCEPTED) ran.accepted++; else if (ran.accepted + 1 < count) peer_apply(table, length, &events[ran.accepted + 1])'
+    'if (ran.refusal == PEER_ACCEPTED) ran.accepted++; else if (ran.accepted + 1 < count) apply_sound(table, &counts, &events[ran.accepted + 1])'
 wrong list-leaves-nothing-at-a-refusal engine.c '    while (ran.refusal == PEER_ACCEPTED && ran.accepted < count) {
-        ran.refusal = peer_apply(table, length, &events[ran.accepted]);' '    uint16_t lent[4000];
+        ran.refusal = apply_sound(table, &counts, &events[ran.accepted]);' '    uint16_t lent[4000];
     for (size_t place = 0; place < length; place++) lent[place] = table[place];
     while (ran.refusal == PEER_ACCEPTED && ran.accepted < count) {
-        ran.refusal = peer_apply(table, length, &events[ran.accepted]);
+        ran.refusal = apply_sound(table, &counts, &events[ran.accepted]);
         for (size_t place = 0; ran.refusal && place < length; place++) table[place] = lent[place];'

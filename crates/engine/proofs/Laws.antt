@@ -1,5 +1,5 @@
 -- How the parts of the one-event job make up its meaning: the table's numbers, then the record's, then the rule's.
-use mathlib.Core.Path.{_≡_, refl, sym, ap, _∙_}
+use mathlib.Core.Path.{_≡_, refl, sym, ap, subst, _∙_}
 use mathlib.Core.Bool.{Bool, true, false, cond, _&&_, and-false}
 use mathlib.Core.List.{List}
 use mathlib.Core.Option.{Option, none, some}
@@ -9,7 +9,7 @@ use borrow.Author.Tests.{eq-eqb, ne-eqb}
 use lib.Dec.{T, eqb, eqb→eq, not-T}
 use lib.ListN.{length}
 use Rattle.lists.specs.Tests.{every, inside}
-use Rattle.lists.proofs.Choice.{and-left, and-right, true-T, false-T, every-all, inside-low, inside-high, passed}
+use Rattle.lists.proofs.Choice.{true-T, false-T, every-all, all-every, inside-low, inside-high}
 use Rattle.protocol.specs.declared.Counts.{Counts}
 use Rattle.protocol.specs.declared.Event.{Event}
 use Rattle.protocol.specs.Events.{Kind, kindOf, recordOf}
@@ -17,17 +17,20 @@ use Rattle.protocol.specs.Numbers.{countTests, inRange, fieldTests, fields, act
 use Rattle.protocol.specs.Rules.{rule}
 use Rattle.protocol.proofs.Records.{kind-unknown, event-record}
 use Rattle.table.specs.Layout.{tableLength}
-use Rattle.table.specs.Table.{countsOf, view, sizeTests, freshTable, setAll}
+use Rattle.table.specs.Table.{countsOf, view, sizeTests, sound, freshTable, setAll}
 use Rattle.table.specs.Jobs.{Done, setUpNumber, setUp, tableNumber, numberOf, writesAt, after, applied}
+use Rattle.table.proofs.Accepts.{table-sound}
+use Rattle.table.proofs.Soundness.{sound-when}
 use Rattle.layout.proofs.Laws.{tests-ranged}
 use Rattle.rules.specs.Rules.{Held, ruleNumber, ofRow, Follows}
 use Rattle.engine.specs.Engine.{followedAt, followed, upAt, partiesUp, answered}
 
 -- ---- numbers 1 and 2: the cells alone
 
-pub beside : (t : List ℕ) (e : Event) (k : ℕ) → tableNumber t ≡ suc k → _≡_ {A = Done} (record { number = suc k; cells = t }) (applied t e)
+-- a table that is not sound: its number is given, and every cell stays
+pub unsound-so : (t : List ℕ) (e : Event) (number : ℕ) → number ≡ tableNumber t → eqb number 0 ≡ false → _≡_ {A = Done} (record { number = number; cells = t }) (applied t e)
 unfolding applied numberOf
-beside t e k f = rw (f, ne-eqb (suc k) 0 (λ z. omega arith), ne-eqb (suc k) 0 (λ z. omega arith))
+unsound-so t e number is unsound = rw (← is, unsound, unsound)
 
 pub wrong-size : (t : List ℕ) → every (sizeTests (countsOf t) t) ≡ false → tableNumber t ≡ 1
 unfolding tableNumber
@@ -54,39 +57,42 @@ wrong-counts n t f = ap (λ b. eqb (length t) (tableLength n) && b) f ∙ and-fa
 pub right-size : (n : Counts) (t : List ℕ) → length t ≡ tableLength n → every (countTests n) ≡ true → every (sizeTests n t) ≡ true
 right-size n t e f = rw (eq-eqb (length t) (tableLength n) e) f
 
--- a table that has neither number is sound
-pub no-number : (t : List ℕ) (number : ℕ) → number ≡ tableNumber t → (number ≡ 1 → ⊥) → (number ≡ 2 → ⊥) → tableNumber t ≡ 0
-unfolding tableNumber
-no-number t number is f g =
-    at (every (sizeTests (countsOf t) t)) (inRange (countsOf t) (view (countsOf t) t)) (λ e. f (is ∙ e)) (λ e. g (is ∙ e))
-  where
-    number-of : Bool → Bool → ℕ
-    number-of size range = cond size (cond range 0 2) 1
+-- the same with the counts that were read from the header
+module _ (t : List ℕ) (n : Counts) (is : n ≡ countsOf t) where
+  pub counts-refused : every (countTests n) ≡ false → tableNumber t ≡ 1
+  counts-refused f = wrong-size t (wrong-counts (countsOf t) t (rw is at f))
 
-    at : (size range : Bool) → (number-of size range ≡ 1 → ⊥) → (number-of size range ≡ 2 → ⊥) → number-of size range ≡ 0
-    at false range f g = absurd (f refl)
-    at true false f g = absurd (g refl)
-    at true true f g = refl
+  pub length-refused : (length t ≡ tableLength n → ⊥) → tableNumber t ≡ 1
+  length-refused f = wrong-size t (other-length (countsOf t) t (rw is at f))
 
-pub sound-held : (t : List ℕ) → tableNumber t ≡ 0 → Held (countsOf t) t
-unfolding tableNumber
-sound-held t e =
-    let n = countsOf t in
-    let (size, ranged) = passed (every (sizeTests n t)) (cond (inRange n (view n t)) 0 2) 1 (omega arith) e in
-    record {
-      long = eqb→eq (length t) (tableLength n) (and-left (eqb (length t) (tableLength n)) (every (countTests n)) size);
-      ranged = tests-ranged n (and-right (eqb (length t) (tableLength n)) (every (countTests n)) size);
-      range = passed (inRange n (view n t)) 0 2 (omega arith) ranged .0;
-    }
+  module _ (long : length t ≡ tableLength n) (counts : every (countTests n) ≡ true) where
+    sized : every (sizeTests (countsOf t) t) ≡ true
+    sized = right-size (countsOf t) t (rw is at long) (rw is at counts)
 
-pub has-header : (t : List ℕ) → tableNumber t ≡ 0 → 4 ≤ length t
+    pub range-refused : inRange n (view n t) ≡ false → tableNumber t ≡ 2
+    range-refused f = out-of-range t sized (subst (λ m. inRange m (view m t) ≡ false) is f)
+
+    pub none-refused : inRange n (view n t) ≡ true → tableNumber t ≡ 0
+    none-refused f = sound-number t sized (subst (λ m. inRange m (view m t) ≡ true) is f)
+
+  -- on a sound table the job is what is given of the record
+  module _ (is-sound : T (sound t)) where
+    pub sound-held : Held n t
+    sound-held =
+        let facts = table-sound t (sound-when t .1 is-sound) in
+        subst (λ m. Held m t) (sym is) (record {
+          long = eqb→eq (length t) (tableLength (countsOf t)) (facts .size .0);
+          ranged = tests-ranged (countsOf t) (all-every (countTests (countsOf t)) (facts .size .1));
+          range = facts .range;
+        })
+
+    pub goes-on : (e : Event) → answered n t e ≡ applied t e
+    unfolding applied numberOf answered
+    goes-on e = subst (λ m. answered m t e ≡ applied t e) (sym is) (rw (sound-when t .1 is-sound))
+
+pub has-header : (t : List ℕ) → T (sound t) → 4 ≤ length t
 unfolding tableLength
-has-header t e = omega (arith, sound-held t e .long)
-
--- on a sound table the job is what is given of the record
-pub goes-on : (t : List ℕ) (e : Event) → tableNumber t ≡ 0 → answered (countsOf t) t e ≡ applied t e
-unfolding applied numberOf answered
-goes-on t e f = rw f
+has-header t is-sound = omega (arith, sound-held t (countsOf t) refl is-sound .long)
 
 -- ---- numbers 3 to 7: the record
 
@@ -145,19 +151,6 @@ module _ (n : Counts) (t : List ℕ) (e : Event) where
   pub ruled-so : every (fields n e) ≡ true → partiesUp n t e ≡ true → followed n t e ≡ answered n t e
   unfolding answered followed recordRefusal
   ruled-so fit up = by-line (λ line. rw line) (λ kind line. ruled-here kind line fit up)
-
--- ---- a kind that is none of the first `last`, as a decision tells it behind its arms, and none of the 18
-
-abbrev pub NoneOf : ℕ → ℕ → Type 0
-NoneOf zero k = Unit {0}
-NoneOf (suc last) k = NoneOf last k × (k ≡ suc last → ⊥)
-
-past : (last k : ℕ) → 1 ≤ k → NoneOf last k → last < k
-past zero k low other = low
-past (suc last) k low other = omega (arith, past last k low (other .0), other .1)
-
-pub no-line : (k : ℕ) → NoneOf 18 k × (k ≡ 0 → ⊥) → kindOf k ≡ none
-no-line k other = kind-unknown k (not-T (inside 18 k) (λ t. omega (arith, past 18 k (inside-low 18 k t) (other .0), inside-high 18 k t)))
 
 -- ---- a record of a row's kind: its result, and no server or database beyond the last
 

@@ -6,10 +6,11 @@ ghost use Rattle.lists.specs.Tests.{every, inside};
 ghost use Rattle.protocol.specs.Cells.{serverUp, databaseUp, clientUp};
 ghost use Rattle.protocol.specs.Numbers.{fields};
 ghost use Rattle.protocol.specs.Answers.{answerNumber};
-ghost use Rattle.table.specs.Table.{view};
+ghost use Rattle.table.specs.Table.{view, sound};
 ghost use Rattle.table.specs.Jobs.{setUp, tableNumber, applied};
 ghost use Rattle.rules.specs.Rules.{Held};
 ghost use Rattle.engine.specs.Engine.{followed, partiesUp, answered};
+use layout::HEADER;
 use protocol::Answer;
 use protocol::Counts;
 use protocol::Event;
@@ -124,31 +125,35 @@ fn answer(table: &mut [u16], counts: Counts, event: Event) -> Answer
     follow(table, counts, event)
 }
 
+// What `apply` does with an event on a table that is sound. An accepted event leaves the table sound, so a list of events asks 1 and 2 once.
+fn apply_sound(table: &mut [u16], event: Event) -> Answer
+    requires { ⌜ T (sound (now table)) ⌝ }
+    ensures { λ r. ⌜ record { number = answerNumber r; cells = now (table .exit) } ≡ applied (now (table .entry)) event ⌝ }
+{
+    let counts = layout::counts_of(&table[..]);
+    answer(table, counts, event)
+}
+
 // ---- 1 and 2: the table
 
-// Numbers 1 and 2, asked of the table alone; 0 where it is sound.
-pub fn check(table: &[u16]) -> u16
-    ensures { λ r. ⌜ r ≡ tableNumber (now (table .entry)) ⌝ }
+// Numbers 1 and 2, asked of the table alone: the one place that looks at the header, the length and the cells.
+fn look_over(table: &[u16]) -> Answer
+    ensures { λ r. ⌜ answerNumber r ≡ tableNumber (now (table .entry)) ⌝ }
 {
-    if table.len() < 4 {
-        return 1;
+    if table.len() < HEADER {
+        return Answer::WrongSize;
     }
-    let counts = Counts {
-        clients: table[0],
-        servers: table[1],
-        databases: table[2],
-        attempts: table[3],
-    };
+    let counts = layout::counts_of(table);
     if !layout::counts_fit(counts) {
-        return 1;
+        return Answer::WrongSize;
     }
     if table.len() != layout::table_length(counts) {
-        return 1;
+        return Answer::WrongSize;
     }
     if !ranges::in_range(table, counts) {
-        return 2;
+        return Answer::OutOfRange;
     }
-    0
+    Answer::Accepted
 }
 
 // ---- the first two public jobs
@@ -171,20 +176,11 @@ pub fn set_up(table: &mut [u16], counts: Counts) -> Answer
 pub fn apply(table: &mut [u16], event: Event) -> Answer
     ensures { λ r. ⌜ record { number = answerNumber r; cells = now (table .exit) } ≡ applied (now (table .entry)) event ⌝ }
 {
-    let unsound = check(&table[..]);
-    if unsound == 1 {
-        return Answer::WrongSize;
+    let looked = look_over(&table[..]);
+    if !gates::is_accepted(looked) {
+        return looked;
     }
-    if unsound == 2 {
-        return Answer::OutOfRange;
-    }
-    let counts = Counts {
-        clients: table[0],
-        servers: table[1],
-        databases: table[2],
-        attempts: table[3],
-    };
-    answer(table, counts, event)
+    apply_sound(table, event)
 }
 
 // ---- the same with numbers for answers, as other languages and the list job take them
@@ -205,9 +201,24 @@ pub fn number(answer: Answer) -> u16
     }
 }
 
+// Numbers 1 and 2 of a table by itself; 0 where it is sound.
+pub fn check(table: &[u16]) -> u16
+    ensures { λ r. ⌜ r ≡ tableNumber (now (table .entry)) ⌝ }
+{
+    number(look_over(table))
+}
+
 // One event, with its number for an answer.
 pub fn step(table: &mut [u16], event: Event) -> u16
     ensures { λ r. ⌜ (r ≡ applied (now (table .entry)) event .number) × (now (table .exit) ≡ applied (now (table .entry)) event .cells) ⌝ }
 {
     number(apply(table, event))
+}
+
+// One event on a table that is sound, with its number for an answer: for the list job and the listing, which know that it is. It is not exported.
+pub fn step_sound(table: &mut [u16], event: Event) -> u16
+    requires { ⌜ T (sound (now table)) ⌝ }
+    ensures { λ r. ⌜ (r ≡ applied (now (table .entry)) event .number) × (now (table .exit) ≡ applied (now (table .entry)) event .cells) ⌝ }
+{
+    number(apply_sound(table, event))
 }

@@ -1,51 +1,27 @@
--- The five field tests of a record whose kind is known, by the limits of its kind; an unknown kind has no tests.
+-- The five field tests of a record by the line of its kind; an unknown kind has no tests.
 use mathlib.Core.Path.{_≡_, refl, sym, ap, _∙_}
 use mathlib.Core.Bool.{Bool, true, false, not, cond, _&&_, Bool·beq}
-use mathlib.Core.List.{List, [], _∷_, map}
-use mathlib.Core.Option.{some, Option·none-ne-some, Option·some-injective}
-use Prim.Native.Nat.{ℕ, zero, suc, _-_, _≤_}
+use mathlib.Core.List.{List, [], _∷_}
+use mathlib.Core.Option.{none}
+use Prim.Native.Nat.{ℕ, zero, suc, _≤_}
 use native.Mathlib.Omega.{arith}
-use lib.Dec.{T, eqb, leb, eqb→eq, leb→le, not-T}
-use lib.ListN.{getD, getElem?}
+use lib.Dec.{T, eqb, leb, eqb→eq, leb→le}
+use lib.ListN.{getD}
 use borrow.Author.Tests.{eq-eqb, le-leb}
 use Rattle.lists.specs.Tests.{every, inside}
-use Rattle.lists.proofs.Choice.{true-T, false-T, and-left, and-right, in-inside, inside-low, inside-high}
+use Rattle.lists.proofs.Choice.{true-T, false-T, and-left, and-right}
 use Rattle.protocol.specs.declared.Counts.{Counts}
 use Rattle.protocol.specs.declared.Event.{Event}
-use Rattle.protocol.specs.Events.{Kind, kinds, kindOf, largest, fits}
+use Rattle.protocol.specs.Events.{kindOf, largest, fits}
 use Rattle.protocol.specs.Numbers.{fieldTests, fields}
-use Rattle.protocol.proofs.Records.{kind-known, kind-unknown}
-use Rattle.kinds.specs.Limits.{limitsOf, limitsAt, mostOf}
+use Rattle.kinds.specs.Limits.{mostOf, listed}
 
--- the limits of a line of a table of kinds
-line-limits : (lines : List Kind) (i : ℕ) (kind : Kind) → getElem? lines i ≡ some kind → getD (map limitsOf lines) i [] ≡ limitsOf kind
-line-limits [] i kind e = absurd (Option·none-ne-some kind e)
-line-limits (line ∷ lines) zero kind e = ap limitsOf (Option·some-injective line kind e)
-line-limits (line ∷ lines) (suc i) kind e = line-limits lines i kind e
+-- the tests of a kind's line, and of none
+pub line-asks : (n : Counts) (e : Event) (k : ℕ) → e .kind ≡ k → every (fieldTests n (kindOf k) e) ≡ every (fields n e)
+line-asks n e k is = ap (λ (j : ℕ). every (fieldTests n (kindOf j) e)) (sym is)
 
-limits-at : (k : ℕ) (kind : Kind) → kindOf k ≡ some kind → getD (map limitsOf kinds) (k - 1) [] ≡ limitsOf kind
-limits-at zero kind e = absurd (Option·none-ne-some kind e)
-limits-at (suc i) kind e = let d : suc i - 1 ≡ i = omega arith in rw d (line-limits kinds i kind e)
-
--- the five tests, by the limits of the kind
-abbrev pub limited : Counts → List ℕ → Event → List Bool
-limited n limits e =
-    fits n (getD limits 0 0) (e .client)
-    ∷ fits n (getD limits 1 0) (e .attempt)
-    ∷ fits n (getD limits 2 0) (e .server)
-    ∷ fits n (getD limits 3 0) (e .database)
-    ∷ fits n (getD limits 4 0) (e .value)
-    ∷ []
-
-pub fields-limited : (n : Counts) (e : Event) (limits : List ℕ) → limits ≡ limitsAt (e .kind) → 1 ≤ e .kind → e .kind ≤ 18 → every (fields n e) ≡ every (limited n limits e)
-unfolding limitsAt
-fields-limited n e limits is low high =
-    let known = kind-known (e .kind) (in-inside 18 (e .kind) low high) in
-    ap (λ k. every (fieldTests n k e)) (known .1)
-    ∙ ap (λ l. every (limited n l e)) (sym (is ∙ limits-at (e .kind) (known .0) (known .1)))
-
-pub unknown-fits : (n : Counts) (e : Event) → (1 ≤ e .kind → e .kind ≤ 18 → ⊥) → true ≡ every (fields n e)
-unknown-fits n e out = rw (kind-unknown (e .kind) (not-T (inside 18 (e .kind)) (λ t. out (inside-low 18 (e .kind) t) (inside-high 18 (e .kind) t))))
+pub none-asks : (n : Counts) (e : Event) → kindOf (e .kind) ≡ none → true ≡ every (fields n e)
+none-asks n e unknown = rw unknown
 
 -- a field that is 0 where it is used, or not 0 where it is not, fits nowhere; any other does if it is at most its largest value
 filled : (most field : ℕ) (zero-field unused-field : Bool) → eqb field 0 ≡ zero-field
@@ -76,20 +52,7 @@ module _ (n : Counts) (limit field : ℕ) where
   pub well-filled : limit ≤ 6 → not (Bool·beq (eqb field 0) (eqb limit 0)) ≡ false → leb field (getD (mostOf n) limit 0) ≡ fits n limit field
   well-filled few well = ap (leb field) (most-at n limit few) ∙ filled (largest n limit) field (eqb field 0) (eqb limit 0) refl .1 well
 
--- no line has a limit behind that of yes or no
-abbrev few : List ℕ → Bool
-few limits = every (map (λ limit. leb limit 6) limits)
-
-few-at : (limits : List ℕ) → T (few limits) → (i : ℕ) → getD limits i 0 ≤ 6
-few-at [] t i = omega arith
-few-at (limit ∷ limits) t zero = leb→le limit 6 (and-left (leb limit 6) (few limits) t)
-few-at (limit ∷ limits) t (suc i) = few-at limits (and-right (leb limit 6) (few limits) t) i
-
-line-few : (lines : List (List ℕ)) → T (every (map few lines)) → (i : ℕ) → T (few (getD lines i []))
-line-few [] t i = tt
-line-few (line ∷ lines) t zero = and-left (few line) (every (map few lines)) t
-line-few (line ∷ lines) t (suc i) = line-few lines (and-right (few line) (every (map few lines)) t) i
-
-pub limit-few : (kind : ℕ) (limits : List ℕ) → limits ≡ limitsAt kind → (i : ℕ) → getD limits i 0 ≤ 6
-unfolding limitsAt
-limit-few kind limits is i = rw is (few-at (getD (map limitsOf kinds) (kind - 1) []) (line-few (map limitsOf kinds) tt (kind - 1)) i)
+pub listed-at : (line : List ℕ) → T (listed line) → (i : ℕ) → getD line i 0 ≤ 6
+listed-at [] t i = omega arith
+listed-at (limit ∷ line) t zero = leb→le limit 6 (and-left (leb limit 6) (listed line) t)
+listed-at (limit ∷ line) t (suc i) = listed-at line (and-right (leb limit 6) (listed line) t) i

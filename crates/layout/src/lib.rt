@@ -1,11 +1,13 @@
 // Where cells lie in the table, as code: the lengths of a row and of the table, and the places of the parties and of the rows.
 ghost use mathlib.Core.Path.{_≡_};
 ghost use Prim.Native.Nat.{_≤_};
+ghost use lib.ListN.{length};
 ghost use Rattle.lists.specs.Tests.{every, inside};
 ghost use Rattle.protocol.specs.declared.Counts.{Counts as Setup};
 ghost use Rattle.protocol.specs.Cells.{serverUp, databaseUp, clientUp};
 ghost use Rattle.protocol.specs.Numbers.{countTests};
 ghost use Rattle.table.specs.Layout.{rowLength, databasesStart, clientsStart, rowsStart, rowStart, place, tableLength};
+ghost use Rattle.table.specs.Table.{countsOf};
 ghost use Rattle.layout.specs.Ranged.{Ranged};
 use protocol::Counts;
 
@@ -15,7 +17,7 @@ const MOST_PARTIES: u16 = 8;
 const MOST_ATTEMPTS: u16 = 16;
 
 // How many cells the header has, each server, each database, each client, and a row but for its acknowledgements.
-const HEADER: usize = 4;
+pub const HEADER: usize = 4;
 
 pub const SERVER_CELLS: usize = 2;
 
@@ -39,6 +41,19 @@ pub const REQUEST: usize = 3;
 pub const DELIVERED: usize = 4;
 
 // ---- the counts
+
+// Those in the header of a table.
+pub fn counts_of(table: &[u16]) -> Counts
+    requires { ⌜ 4 ≤ length (now table) ⌝ }
+    ensures { λ r. ⌜ r ≡ countsOf (now (table .entry)) ⌝ }
+{
+    Counts {
+        clients: table[0],
+        servers: table[1],
+        databases: table[2],
+        attempts: table[3],
+    }
+}
 
 // Whether a count is from 1 to the most.
 fn count_fits(count: u16, most: u16) -> bool

@@ -3,10 +3,10 @@ ghost use mathlib.Core.Path.{_≡_};
 ghost use Prim.Native.Nat.{_≤_, _<_};
 ghost use lib.ListN.{length};
 ghost use Rattle.lent.specs.Count.{cellCount};
+use layout::HEADER;
 use libc::STDOUT_FILENO;
 use lines::EventLine;
 use printing::Got;
-use protocol::Counts;
 use protocol::Event;
 use text::NEWLINE;
 use text::Number;
@@ -69,15 +69,10 @@ fn ends_part(table: &[u16], place: usize) -> bool
     if behind == table.len() {
         return true;
     }
-    if table.len() < 4 {
+    if table.len() < HEADER {
         return false;
     }
-    let counts = Counts {
-        clients: table[0],
-        servers: table[1],
-        databases: table[2],
-        attempts: table[3],
-    };
+    let counts = layout::counts_of(table);
     let rows = layout::rows_start(counts);
     if rows < behind {
         return (behind - rows) % layout::row_length(counts) == 0;

@@ -5,10 +5,13 @@ use mathlib.Core.Option.{none, some}
 use Prim.Native.Nat.{ℕ, suc, _+_, _*_, _≤_, _<_}
 use native.Mathlib.Numerals.{add-one}
 use native.Mathlib.Omega.{arith}
+use lib.Dec.{T}
 use lib.ListN.{length, drop, length-drop, drop-of-length-le}
 use borrow.Author.Tests.{ne-eqb}
 use Rattle.protocol.specs.declared.Event.{Event}
+use Rattle.table.specs.Table.{sound}
 use Rattle.table.specs.Jobs.{applied}
+use Rattle.table.proofs.Soundness.{sound-left}
 use Rattle.text.specs.Writing.{Page, puts, line}
 use Rattle.text.proofs.Pages.{puts-append}
 use Rattle.lines.specs.Lines.{readEvent}
@@ -53,15 +56,16 @@ module _ (input : List ℕ) (start : ℕ) (first : Page) (cells₀ : List ℕ) w
   abbrev pub Ends : Page → List ℕ → Type 0
   Ends page cells = (page ≡ puts first (whole .text)) × (cells ≡ whole .cells)
 
-  -- so do they from this page and these cells on, with the lines from `next` on
+  -- so do they from this page and these cells on, a sound table, with the lines from `next` on
   pub record Playing (page : Page) (cells : List ℕ) (place next : ℕ) : Type 0 where
     pub low : 1 ≤ place
     pub few : 12 * place ≤ next + 12
     pub text : puts page (played place cells (script (drop next input)) .text) ≡ puts first (whole .text)
     pub left : played place cells (script (drop next input)) .cells ≡ whole .cells
+    pub is-sound : T (sound cells)
 
-  pub begins : Playing first cells₀ 1 start
-  begins = record { low = omega arith; few = omega arith; text = refl; left = refl }
+  pub begins : T (sound cells₀) → Playing first cells₀ 1 start
+  begins is-sound = record { low = omega arith; few = omega arith; text = refl; left = refl; is-sound = is-sound }
 
   module _ (page : Page) (cells : List ℕ) (place next : ℕ) (so-far : Playing page cells place next) where
     pub at-end : length input ≤ next → Ends page cells
@@ -98,4 +102,5 @@ module _ (input : List ℕ) (start : ℕ) (first : Page) (cells₀ : List ℕ) w
                   (sym (puts-append page (line (place ∷ applied cells e .number ∷ [])) (played (suc place) (applied cells e .cells) more .text))
                   ∙ (ap (puts page) (sym (accepted-text place cells e more ok)) ∙ (rw follows-event at (so-far .text))));
               left = rw (add-one, leaves) (sym (accepted-cells place cells e more ok) ∙ (rw follows-event at (so-far .left)));
+              is-sound = rw leaves (sound-left cells e ok);
             }

@@ -4,7 +4,7 @@ use mathlib.Core.Bool.{true, false}
 use mathlib.Core.List.{List, [], _∷_, _++_}
 use mathlib.Core.Option.{none, some}
 use Prim.Native.Nat.{ℕ, _≤_, _<_, min}
-use lib.Dec.{eqb}
+use lib.Dec.{T, eqb}
 use lib.ListN.{length}
 use borrow.Author.Tests.{eq-eqb, le-leb, lt-leb}
 use Rattle.lists.specs.Tests.{every}
@@ -13,9 +13,10 @@ use Rattle.protocol.specs.declared.Counts.{Counts}
 use Rattle.protocol.specs.Cells.{rowOf}
 use Rattle.protocol.specs.Numbers.{countTests}
 use Rattle.table.specs.Layout.{tableLength}
-use Rattle.table.specs.Table.{view, freshTable}
+use Rattle.table.specs.Table.{view, sound, freshTable}
 use Rattle.table.specs.Jobs.{setUp}
-use Rattle.table.proofs.Fresh.{set-up-number, set-up}
+use Rattle.table.proofs.Fresh.{fresh-sound, set-up-number, set-up}
+use Rattle.table.proofs.Soundness.{sound-when}
 use Rattle.layout.specs.Ranged.{Ranged}
 use Rattle.layout.proofs.Laws.{ranged-tests}
 use Rattle.text.specs.Writing.{Page, puts, line, over}
@@ -30,6 +31,11 @@ pub set-up-fresh : (n : Counts) (t : List ℕ) → length t ≡ tableLength n �
 set-up-fresh n t long ranged number cells e =
     let fits = both (eqb (length t) (tableLength n)) (every (countTests n)) (true-T _ (eq-eqb (length t) (tableLength n) long)) (ranged-tests n ranged) in
     ap (λ done. done .cells) e ∙ set-up t n (set-up-number t n .1 fits)
+
+pub set-up-sound : (n : Counts) (t : List ℕ) → length t ≡ tableLength n → Ranged n → (number : ℕ) (cells : List ℕ)
+    → record { number = number; cells = cells } ≡ setUp t n → T (sound cells)
+set-up-sound n t long ranged number cells e =
+    rw (set-up-fresh n t long ranged number cells e) (sound-when (freshTable n) .0 (fresh-sound n (ranged-tests n ranged)))
 
 -- the events, the clients and the results
 pub parts-listed : (n : Counts) (s : Script) (cells left : List ℕ) (first second third last : Page) → cells ≡ freshTable n

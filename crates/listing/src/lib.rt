@@ -2,12 +2,13 @@
 ghost use mathlib.Core.Path.{_≡_};
 ghost use mathlib.Core.List.{[], _∷_};
 ghost use Prim.Native.Nat.{_≤_, min};
+ghost use lib.Dec.{T};
 ghost use lib.ListN.{length, drop};
 ghost use Rattle.protocol.specs.declared.Counts.{Counts as Setup};
 ghost use Rattle.protocol.specs.Agreement.{Id};
 ghost use Rattle.protocol.specs.Cells.{rowOf};
 ghost use Rattle.table.specs.Layout.{tableLength};
-ghost use Rattle.table.specs.Table.{view, rowView, freshTable};
+ghost use Rattle.table.specs.Table.{view, rowView, sound, freshTable};
 ghost use Rattle.table.specs.Jobs.{applied};
 ghost use Rattle.layout.specs.Ranged.{Ranged};
 ghost use Rattle.text.specs.Writing.{puts, line, over};
@@ -148,11 +149,12 @@ struct Turn {
 
 // One event and its line.
 fn play_event(out: &mut [u8], at: usize, table: &mut [u16], place: u16, event: Event) -> Turn
+    requires { ⌜ T (sound (now table)) ⌝ }
     ensures { λ r. ⌜ record { cells = now (out .exit); at = r .at } ≡ puts (record { cells = now (out .entry); at = at }) (line (place ∷ applied (now (table .entry)) event .number ∷ [])) ⌝ }
     ensures { λ r. ⌜ r .number ≡ applied (now (table .entry)) event .number ⌝ }
     ensures { λ r. ⌜ now (table .exit) ≡ applied (now (table .entry)) event .cells ⌝ }
 {
-    let number = engine::step(table, event);
+    let number = engine::step_sound(table, event);
     let behind = lines::put_place(out, at, place, number);
     Turn {
         at: behind,
@@ -162,6 +164,7 @@ fn play_event(out: &mut [u8], at: usize, table: &mut [u16], place: u16, event: E
 
 // The events of the lines from a place on, to the first refusal.
 fn play(out: &mut [u8], table: &mut [u16], input: &[u8], start: usize) -> usize
+    requires { ⌜ T (sound (now table)) ⌝ }
     requires { ⌜ length (now input) ≤ longest ⌝ }
     ensures { λ r. ⌜ record { cells = now (out .exit); at = r } ≡ puts (record { cells = now (out .entry); at = 0 }) (played 1 (now (table .entry)) (script (drop start (now (input .entry)))) .text) ⌝ }
     ensures { λ _. ⌜ now (table .exit) ≡ played 1 (now (table .entry)) (script (drop start (now (input .entry)))) .cells ⌝ }

@@ -5,7 +5,7 @@ use mathlib.Core.List.{List, [], _∷_}
 use mathlib.Core.Option.{none, some, Option·none-ne-some, Option·some-injective}
 use Prim.Native.Nat.{ℕ, zero, suc, _≤_, _<_}
 use native.Mathlib.Omega.{arith}
-use lib.Dec.{T, eqb, eqb→eq, T-not}
+use lib.Dec.{T, eqb, eqb→eq, not-T, T-not}
 use lib.ListN.{length, getElem?}
 use Rattle.lists.specs.Tests.{All, inside}
 use Rattle.lists.proofs.Choice.{inside-low, inside-high, in-inside}
@@ -49,6 +49,18 @@ kind-unknown (suc i) t = line-out kinds i (omega (arith, low))
   where
     low : i < 18 → ⊥
     low h = T-not (inside 18 (suc i)) t (in-inside 18 (suc i) (omega arith) (omega arith))
+
+-- a kind that is none of the first `last`, as a decision tells it behind its arms, and not 0
+abbrev pub NoneOf : ℕ → ℕ → Type 0
+NoneOf zero k = Unit {0}
+NoneOf (suc last) k = NoneOf last k × (k ≡ suc last → ⊥)
+
+past : (last k : ℕ) → 1 ≤ k → NoneOf last k → last < k
+past zero k low other = low
+past (suc last) k low other = omega (arith, past last k low (other .0), other .1)
+
+pub no-line : (k : ℕ) → NoneOf 18 k × (k ≡ 0 → ⊥) → kindOf k ≡ none
+no-line k other = kind-unknown k (not-T (inside 18 k) (λ t. omega (arith, past 18 k (inside-low 18 k t) (other .0), inside-high 18 k t)))
 
 -- ---- a record is that of its event
 

@@ -84,7 +84,7 @@ pub struct Ran {
 pub extern "C" fn vrolkant_run(table: &mut [u16], events: &[Event]) -> Ran
     ensures { λ r. ⌜ (r .accepted ≡ ran (now (table .entry)) (now (events .entry)) .accepted) × (r .refusal ≡ ran (now (table .entry)) (now (events .entry)) .refusal) × (now (table .exit) ≡ ran (now (table .entry)) (now (events .entry)) .cells) ⌝ }
 {
-    // an empty list still asks 1 and 2
+    // once, because an accepted event leaves a sound table sound; an empty list is asked too
     let first = engine::check(table);
     if first != 0 {
         return Ran {
@@ -94,7 +94,7 @@ pub extern "C" fn vrolkant_run(table: &mut [u16], events: &[Event]) -> Ran
     }
     let mut i: usize = 0;
     while i < events.len() {
-        let number = engine::step(table, events[i]);
+        let number = engine::step_sound(table, events[i]);
         if number != 0 {
             return Ran {
                 accepted: i,

@@ -84,6 +84,11 @@ pub sound-kept : (t : List ℕ) (r : Record) → numberOf t r ≡ 0 → tableNum
 unfolding applied
 sound-kept t r e = rw e (sound-table (after (countsOf t) t r) (after-sound t r (accepts t r e)))
 
+-- the same in the words of the job: what an accepted record leaves is sound
+pub sound-left : (t : List ℕ) (r : Record) → applied t r .number ≡ 0 → T (sound (applied t r .cells))
+unfolding applied
+sound-left t r accepted = sound-when (applied t r .cells) .0 (sound-kept t r accepted)
+
 pub refused-untouched : (t : List ℕ) (r : Record) → (numberOf t r ≡ 0 → ⊥) → applied t r .cells ≡ t
 unfolding applied
 refused-untouched t r refused = rw (ne-eqb (numberOf t r) 0 refused)

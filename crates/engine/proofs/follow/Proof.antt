@@ -1,7 +1,8 @@
 -- `engine::follow` meets its contract.
 use mathlib.Core.Path.{refl}
+use Rattle.protocol.proofs.Records.{no-line}
 use Rattle.rules.proofs.Laws.{at-kind}
-use Rattle.engine.proofs.Laws.{by-server, by-database, by-both-parties, no-line}
+use Rattle.engine.proofs.Laws.{by-server, by-database, by-both-parties}
 use Rattle.engine.specs.Engine.{followed}
 use borrow.Author.Needs.{needs}
 use Rattle.engine.proofs.follow.Statement.{statement}

@@ -1,8 +1,8 @@
 -- `engine::parties_up` meets its contract.
 use mathlib.Core.Path.{sym, _∙_}
-use Rattle.rules.proofs.Laws.{at-kind}
 use mathlib.Core.Bool.{and-true}
-use Rattle.engine.proofs.Laws.{no-line}
+use Rattle.protocol.proofs.Records.{no-line}
+use Rattle.rules.proofs.Laws.{at-kind}
 use Rattle.engine.specs.Engine.{partiesUp}
 use Rattle.engine.proofs.parties_up.Statement.{statement}
 use Rattle.engine.proofs.parties_up.Tie as tie

@@ -1,5 +1,5 @@
 -- `listing::list_on` meets its contract.
-use Rattle.listing.proofs.Whole.{set-up-fresh, parts-listed}
+use Rattle.listing.proofs.Whole.{set-up-fresh, set-up-sound, parts-listed}
 use borrow.Author.Needs.{needs}
 use Rattle.listing.proofs.list_on.Statement.{statement}
 use Rattle.listing.proofs.list_on.Tie as tie
@@ -8,7 +8,10 @@ set-up-requires : tie.Need-set-up-requires
 set-up-requires c κs = search needs
 
 play-requires : tie.Need-play-requires
-play-requires c κs = search needs
+play-requires c κs =
+    let ready = c .before .before .before .before in
+    let start = ready .before .before .before .before .before in
+    (set-up-sound (start .args .counts) (start .args .table .now) (start .pre .0) (start .pre .1 .0) _ _ (ready .set-up .ensures), start .pre .1 .1)
 
 client-lines-requires : tie.Need-client-lines-requires
 client-lines-requires c κs = search needs

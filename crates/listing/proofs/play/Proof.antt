@@ -19,7 +19,7 @@ abbrev μ-loop : tie.MeasureT-loop
 μ-loop out₀ table₀ input start at₀ place₀ next₀ out table at place next = length input - next
 
 loop-holds : tie.Need-loop-holds Inv-loop μ-loop
-loop-holds c = (refl, refl, begins _ _ _ _)
+loop-holds c = (refl, refl, begins _ _ _ _ (c .before .before .before .pre .0))
 
 read-event-requires : tie.Need-read-event-requires Inv-loop μ-loop
 read-event-requires c κs = search needs
@@ -49,7 +49,7 @@ returns c =
     _ (c .before .before .put-place .ensures)
 
 play-event-requires : tie.Need-play-event-requires Inv-loop μ-loop
-play-event-requires c κs = search needs
+play-event-requires c κs = c .before .before .before .before .before .before .before .loop .inv .2 .is-sound
 
 same-length-3 : tie.Need-same-length-3 Inv-loop μ-loop
 same-length-3 c =
@@ -76,7 +76,7 @@ returns-2 c =
 add-place : tie.Need-add-place Inv-loop μ-loop
 add-place c =
     let loop = c .before .before .before .before .before .before .before .before .before .before .before .before .before .before in
-    omega (arith, loop .loop .inv .2 .few, loop .before .before .before .before .pre)
+    omega (arith, loop .loop .inv .2 .few, loop .before .before .before .before .pre .1)
 
 loop-less : tie.Need-loop-less Inv-loop μ-loop
 loop-less c =

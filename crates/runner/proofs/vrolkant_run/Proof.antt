@@ -1,6 +1,6 @@
 -- `runner::vrolkant_run` meets its contract: a walk of its MIR, by hand, with a loop in it, for no function that holds a `&[Event]` is walked by the tools.
--- The list is one `&[Event]`, of which the walk keeps the fractured borrow open to look into; the table is lent again to `check`, as a `&`, and at each turn to `step`, as a `&mut`, and comes back (`Again.antt`).
--- All that the proof knows of `check` and `step` is that they meet their contracts, and of the list what `Listed.antt` says. It looks into no definition of any `specs/`.
+-- The list is one `&[Event]`, of which the walk keeps the fractured borrow open to look into; the table is lent again to `check`, as a `&`, and at each turn to `step_sound`, as a `&mut`, and comes back (`Again.antt`).
+-- All that the proof knows of `check` and `step_sound` is that they meet their contracts, and of the list what `Listed.antt` says. It looks into no definition of any `specs/`.
 --     State, At        the loop's variant, i and the table after i events with what is known of them, and what is owned there.        Nearer     ordered by what is left of the list
 --     exits            from what is had at exit to the `post`.        leaves    the locals are freed, and `exits`
 --     turn             one turn of the loop.        loop-runs, checked, begins    the MIR from its end to its start
@@ -34,7 +34,7 @@ use types.Run.{look, look-raw, init, store, forget, stop, hop, fld, from, load, 
 use types.Part.{agg, whole, sub, look-in}
 use types.Share.{arr-parts}
 use types.Tokens.{lft-new, lft-end}
-use sound.WpLaws.{fmOf, WpFn-mono}
+use package.sound.WpLaws.{fmOf, WpFn-mono}
 use denote.RattleType.{owns}
 use denote.Laws.{Is, shows}
 use denote.Memory.{shares, pointee}
@@ -56,7 +56,9 @@ use denote.Triple.Walked.{says, Stays, stay-slice, stay-dropped, walkOf, goes-sl
 use denote.Exit.{yes}
 use Rattle.protocol.specs.declared.Event.{Event}
 use Rattle.runner.specs.declared.Ran.{Ran}
+use Rattle.table.specs.Table.{sound}
 use Rattle.table.specs.Jobs.{tableNumber, applied}
+use Rattle.table.proofs.Soundness.{sound-when}
 use Rattle.protocol.proofs.Event as E
 use Rattle.protocol.proofs.Event.Laws as E′
 use Rattle.runner.proofs.Ran as N
@@ -67,10 +69,10 @@ use Rattle.engine.proofs.check as check
 use Rattle.engine.proofs.check.Symbol as check-def
 use Rattle.engine.proofs.check.Symbol.{name as #engine·check}
 use Rattle.engine.proofs.check.Met as check-thm
-use Rattle.engine.proofs.step as one
-use Rattle.engine.proofs.step.Symbol as one-def
-use Rattle.engine.proofs.step.Symbol.{name as #engine·step}
-use Rattle.engine.proofs.step.Met as one-thm
+use Rattle.engine.proofs.step_sound as one
+use Rattle.engine.proofs.step_sound.Symbol as one-def
+use Rattle.engine.proofs.step_sound.Symbol.{name as #engine·step-sound}
+use Rattle.engine.proofs.step_sound.Met as one-thm
 use Rattle.runner.proofs.vrolkant_run.Key.{name as #runner·vrolkant-run}
 use Rattle.runner.proofs.vrolkant_run as job
 use Rattle.runner.proofs.vrolkant_run.Statement as stated
@@ -192,7 +194,7 @@ module _ {M : Type 1} (𝓤 : URA M) (H : Heap 𝓤) (A : Atoms 𝓤) (W : Given
   fits-place : (i : ℕ) → i < m → i * 12 < 2 ^ 64
   fits-place i less = omega (arith, roomE .1, less)
 
-  -- ---- what `check`'s and `step`'s triples bind outside, and that the caller has what they ask
+  -- ---- what `check`'s and `step_sound`'s triples bind outside, and that the caller has what they ask
   abbrev to-check : ℕ → GName → Check 𝓤 H A mem run .Ghost
   to-check ν δ = (((ν ∷ [], tt), (fullShare, tt), tt, (x δ ys, tt), (s ∷ [], tt)), tt)
 
@@ -204,18 +206,18 @@ module _ {M : Type 1} (𝓤 : URA M) (H : Heap 𝓤) (A : Atoms 𝓤) (W : Given
   abbrev to-one : ℕ → GName → List ℕ → Event → One 𝓤 H A mem run .Ghost
   to-one ν δ ts e = (((ν ∷ [], tt), (fullShare, tt), tt, (x δ ts, (e, tt)), (s ∷ [], (E′.lowered e ∷ [], tt))), tt)
 
-  goes-one : (ν : ℕ) (δ : GName) (ts : List ℕ) (e : Event) → Is E.the-row e (E′.lowered e ∷ [])
+  goes-one : (ν : ℕ) (δ : GName) (ts : List ℕ) (e : Event) → Is E.the-row e (E′.lowered e ∷ []) → T (sound ts)
       → ent 𝓤 (sep 𝓤 (A .lft (ν ∷ []) fullShare) (sem 𝓤 H A (MutSlice (named 0) (ν ∷ []) u16 .own (x δ ts) (s ∷ [])))) (One 𝓤 H A mem run .pre (to-one ν δ ts e))
-  goes-one ν δ ts e is =
+  goes-one ν δ ts e is is-sound =
       qed W (‵ (flft (ν ∷ []) fullShare) ∷ ‵ (MutSlice (named 0) (ν ∷ []) u16 .own (x δ ts) (s ∷ [])) ∷ []) ∵
-      nothing ! $ move ! (1 ∷ 0 ∷ []) $ join ! $ nothing ! $ owned ! E.the-row (Is E.the-row) (LL.makes E.the-type E′.the-plain 𝓤 H A) e (E′.lowered e ∷ []) is $ fjoin ! $
-      move ! (2 ∷ 0 ∷ []) $ fjoin ! $ move ! (1 ∷ 0 ∷ []) $ join ! $ frame ! $ done !
+      says ! is-sound $ nothing ! $ move ! (1 ∷ 0 ∷ []) $ join ! $ nothing ! $ owned ! E.the-row (Is E.the-row) (LL.makes E.the-type E′.the-plain 𝓤 H A) e (E′.lowered e ∷ []) is $ fjoin ! $
+      move ! (2 ∷ 0 ∷ []) $ fjoin ! $ move ! (1 ∷ 0 ∷ []) $ frame ! $ done !
 
   -- of `check`'s `ensured`, the clause alone
   said-check : (ν : ℕ) (δ : GName) (r : ℕ) → ent 𝓤 (ensured 𝓤 H A check.ended (check.clauses 𝓤 H A mem run) (ν ∷ [], tt) (x δ ys, tt) tt r) (fact 𝓤 (r ≡ tableNumber ys))
   said-check ν δ r = exE 𝓤 _ (λ ws. snd∗ 𝓤 (sem 𝓤 H A (lasts check.ended (ν ∷ [], tt) (x δ ys, tt) ws)) (fact 𝓤 (r ≡ tableNumber ys)))
 
-  module _ (𝓣 : Tables 𝓤 H) (known-check : Triple 𝓤 (𝓣 .C #engine·check) (Check 𝓤 H A mem run)) (known-one : Triple 𝓤 (𝓣 .C #engine·step) (One 𝓤 H A mem run)) (l₀ l₁ l₂ l₃ l₄ l₅ l₆ l₇ l₈ l₉ l₁₀ l₁₁ l₁₂ l₁₃ l₁₄ : ℕ) where
+  module _ (𝓣 : Tables 𝓤 H) (known-check : Triple 𝓤 (𝓣 .C #engine·check) (Check 𝓤 H A mem run)) (known-one : Triple 𝓤 (𝓣 .C #engine·step-sound) (One 𝓤 H A mem run)) (l₀ l₁ l₂ l₃ l₄ l₅ l₆ l₇ l₈ l₉ l₁₀ l₁₁ l₁₂ l₁₃ l₁₄ : ℕ) where
     abbrev C : Calls 𝓤 H
     C = 𝓣 .C
 
@@ -272,9 +274,9 @@ module _ {M : Type 1} (𝓤 : URA M) (H : Heap 𝓤) (A : Atoms 𝓤) (W : Given
         move ! (32 ∷ 33 ∷ 30 ∷ 31 ∷ 28 ∷ 29 ∷ 26 ∷ 27 ∷ 24 ∷ 25 ∷ 22 ∷ 23 ∷ 20 ∷ 21 ∷ 18 ∷ 19 ∷ 16 ∷ 17 ∷ 14 ∷ 15 ∷ 12 ∷ 13 ∷ 10 ∷ 11 ∷ 8 ∷ 9 ∷ 6 ∷ 7 ∷ 4 ∷ 5 ∷ []) $
         free1 ! $ free1 ! $ free1 ! $ free1 ! $ free1 ! $ free1 ! $ free1 ! $ free1 ! $ free1 ! $ free1 ! $ free1 ! $ free1 ! $ free1 ! $ free1 ! $ free1 ! $ free0 ! $ by ! (exits r ts said l fits-a fits-r)
 
-    turn : tableNumber ys ≡ 0 → (u : State) → Sq W (At u) (runs C Λ En code-mir.turn-1 (anyQ (Turned u)))
+    turn : T (sound ys) → (u : State) → Sq W (At u) (runs C Λ En code-mir.turn-1 (anyQ (Turned u)))
     unfolding afterTurn
-    turn sound u =
+    turn is-sound u =
         assigns ! (of-opd ! (load ! (from ! (fld ! refl (stop !))) (look-in ! 28 (sub ! 1 refl (whole !))))) (from ! (stop !)) (init ! 14 refl (tt, record { fits = roomE .0 })) $
         assigns ! (bin ! (load ! (from ! (stop !)) (look ! 24 refl)) (load ! (from ! (stop !)) (look ! 14 refl)) tt) (from ! (stop !)) (init ! 12 refl (tt, tt)) $
         first ! $ branches ! (load ! (from ! (stop !)) (look ! 12 refl))
@@ -294,10 +296,10 @@ module _ {M : Type 1} (𝓤 : URA M) (H : Heap 𝓤) (A : Atoms 𝓤) (W : Given
         -- [token′; shared; table; token; _14; …]: the table is lent again, for a lifetime ν of the call
         move ! (2 ∷ 3 ∷ []) $ lft-new ! tt (λ ν. move ! (1 ∷ 2 ∷ []) $
         use2 W (later (some (λ (δ : GName). ‵ (MutSlice (named 0) (ν ∷ []) u16 .own (x δ (u .1)) (s ∷ [])) ⊛ ‵ (LentAgain u16 κ (ν ∷ []) q γ b o δ (u .1))))) (lends-at u16 κ (ν ∷ []) q γ b o 𝓤 H A W (named 0) (named 0) (u .1) n (u .2 .1)) $ await ! tt $ pick ! (λ δ. split ! $
-        move ! (2 ∷ 0 ∷ []) $ use2 W (raw (One 𝓤 H A mem run .pre (to-one ν δ (u .1) (event u)))) (goes-one ν δ (u .1) (event u) is) $
+        move ! (2 ∷ 0 ∷ []) $ use2 W (raw (One 𝓤 H A mem run .pre (to-one ν δ (u .1) (event u)))) (goes-one ν δ (u .1) (event u) is (u .2 .3)) $
         calls-at ! (fmOf 𝓤 H (W .laws) 𝓣) (One 𝓤 H A mem run) known-one (to-one ν δ (u .1) (event u)) (and-then ! (load ! (from ! (stop !)) (look ! 8 refl)) (and-then ! (load ! (from ! (stop !)) (look ! 4 refl)) (no-more !))) (λ w.
         use1 W (later (some (λ (r : ℕ). ((‵ (flft (ν ∷ []) fullShare) ⊛ ‵ ftrue) ⊛ ‵ (u16 .own r (w ∷ []))) ⊛ raw (ensured 𝓤 H A one.ended (one.clauses 𝓤 H A mem run) (ν ∷ [], tt) (x δ (u .1), (event u, tt)) tt r)))) (id⊢ 𝓤 _) $ await ! tt $ pick ! (λ r.
-        -- what `step` ensures, at some last list
+        -- what `step_sound` ensures, at some last list
         split ! $ move ! (1 ∷ []) $ use1 W (some (λ (zs : List ℕ × (Unit {0} × Unit {0})). ‵ (lasts one.ended (ν ∷ [], tt) (x δ (u .1), (event u, tt)) zs) ⊛ raw (fact 𝓤 ((r ≡ applied (u .1) (event u) .number) × (zs .0 ≡ applied (u .1) (event u) .cells))))) (id⊢ 𝓤 _) $ pick ! (λ zs.
         split ! $ move ! (1 ∷ []) $ heard ! ((r ≡ applied (u .1) (event u) .number) × (zs .0 ≡ applied (u .1) (event u) .cells)) (λ said. fsplit ! $ fsplit ! $ move ! (1 ∷ []) $ feqL ! (λ l.
         move ! (2 ∷ []) $ split ! $ move ! (1 ∷ []) $ peeks ! u16 (Is u16) (shows 𝓤 H A u16) r (w ∷ []) (λ is-r.
@@ -314,7 +316,7 @@ module _ {M : Type 1} (𝓤 : URA M) (H : Heap 𝓤) (A : Atoms 𝓤) (W : Given
         (λ refused. assigns ! (agg ! (and-then ! (load ! (from ! (stop !)) (look ! 24 refl)) (and-then ! (load ! (from ! (stop !)) (look ! 22 refl)) (no-more !)))) (from ! (stop !))
         (init ! 32 refl (tt, (record { fits = fits-i (u .0) (u .2 .0) }, (record { fits = subst (λ (k : ℕ). k < 2 ^ 16) (said .0) (is-r .1) }, tt)))) $
         returns-within ! Post refl (look ! 32 refl) $ forget ! 4 refl $ forget ! 6 refl $ forget ! 8 refl $ forget ! 10 refl $ forget ! 12 refl $ forget ! 14 refl $ forget ! 22 refl $ forget ! 24 refl $ forget ! 32 refl $
-        leaves (record { accepted = u .0; refusal = applied (u .1) (event u) .number }) (applied (u .1) (event u) .cells) (stops ys es (u .0) (u .1) no-event lt sound (u .2) (other _ refused))
+        leaves (record { accepted = u .0; refusal = applied (u .1) (event u) .number }) (applied (u .1) (event u) .cells) (stops ys es (u .0) (u .1) no-event lt is-sound (u .2) (other _ refused))
         (ap length (sym (said .1)) ∙ l ∙ u .2 .1) (fits-i (u .0) (u .2 .0)) (subst (λ (k : ℕ). k < 2 ^ 16) (said .0) (is-r .1)))
         (λ accepted. let f = goes-on ys es (u .0) (u .1) no-event lt (u .2) (none _ accepted) (ap length (sym (said .1)) ∙ l) in
         skips ! $ exec ! C Λ En (next (next (next (next (next (next (next (next (next (next (next code-mir.turn-1))))))))))) (anyQ (Turned u)) $
@@ -324,13 +326,13 @@ module _ {M : Type 1} (𝓤 : URA M) (H : Heap 𝓤) (A : Atoms 𝓤) (W : Given
         (λ over. jumps ! $ exec ! C Λ En code-mir.t-8 (atRet En Post) $
         assigns ! (agg ! (and-then ! (load ! (from ! (stop !)) (look ! 24 refl)) (and-then ! (lit ! tt) (no-more !)))) (from ! (stop !)) (init ! 32 refl (tt, (record { fits = fits-i (u .0) (u .2 .0) }, (record { fits = lit< tt }, tt)))) $
         returns ! (look ! 32 refl) $ forget ! 12 refl $ forget ! 14 refl $ forget ! 24 refl $ forget ! 32 refl $
-        leaves (record { accepted = u .0; refusal = 0 }) (u .1) (ended ys es (u .0) (u .1) sound (u .2) (nltb→le (u .0) m over)) (u .2 .1) (fits-i (u .0) (u .2 .0)) (lit< tt))
+        leaves (record { accepted = u .0; refusal = 0 }) (u .1) (ended ys es (u .0) (u .1) is-sound (u .2) (nltb→le (u .0) m over)) (u .2 .1) (fits-i (u .0) (u .2 .0)) (lit< tt))
 
     -- the loop, and what follows it
-    loop-runs : tableNumber ys ≡ 0 → Sq W (Rest ys) (runs C Λ En code-mir.t-6 (atRet En Post))
-    loop-runs sound =
+    loop-runs : T (sound ys) → Sq W (Rest ys) (runs C Λ En code-mir.t-6 (atRet En Post))
+    loop-runs is-sound =
         assigns ! (of-opd ! (lit ! tt)) (from ! (stop !)) (init ! 24 refl (tt, record { fits = lit< tt })) $
-        first ! $ blocks ! $ loops ! 𝓣 Nearer Nearer-wf At (turn sound) (0, ys, starts ys es)
+        first ! $ blocks ! $ loops ! 𝓣 Nearer Nearer-wf At (turn is-sound) (0, ys, starts ys es is-sound)
 
     -- the table is refused, or the loop runs
     checked : (r : ℕ) → r ≡ tableNumber ys → r < 2 ^ 16 → Sq W (Ghosts ys (High (‵ (froom (tyInt w64) l₄ 0) ∷ Low-at r))) (runs C Λ En code-mir.t-4 (atRet En Post))
@@ -340,7 +342,7 @@ module _ {M : Type 1} (𝓤 : URA M) (H : Heap 𝓤) (A : Atoms 𝓤) (W : Given
         (λ refused. assigns ! (agg ! (and-then ! (lit ! tt) (and-then ! (load ! (from ! (stop !)) (look ! 26 refl)) (no-more !)))) (from ! (stop !)) (init ! 32 refl (tt, (record { fits = lit< tt }, (record { fits = fits-r }, tt)))) $
         returns-within ! Post refl (look ! 32 refl) $ forget ! 16 refl $ forget ! 26 refl $ forget ! 32 refl $
         leaves (record { accepted = 0; refusal = r }) ys (unsound ys es r said (other r refused)) refl (lit< tt) fits-r)
-        (λ fine. skips ! $ exec ! C Λ En code-mir.t-6 (atRet En Post) $ forget ! 16 refl $ forget ! 26 refl $ loop-runs (sym said ∙ none r fine))
+        (λ fine. skips ! $ exec ! C Λ En code-mir.t-6 (atRet En Post) $ forget ! 16 refl $ forget ! 26 refl $ loop-runs (sound-when ys .0 (sym said ∙ none r fine)))
 
     -- the table is lent as a `&` to `check`, for a lifetime ν of the call, and comes back
     begins : Sq W (Rest ys) (runs C Λ En code-mir.t-1 (atRet En Post))
@@ -360,7 +362,7 @@ module _ {M : Type 1} (𝓤 : URA M) (H : Heap 𝓤) (A : Atoms 𝓤) (W : Given
         move ! (2 ∷ 3 ∷ []) $ drop ! $ drop ! $ move ! (2 ∷ 3 ∷ 0 ∷ 1 ∷ []) $ forget ! 18 refl $ forget ! 20 refl $ checked r said (is-r .1)))))))
 
   -- the entry: the locals are allocated, and what is owned is brought to the front
-  walk : (𝓣 : Tables 𝓤 H) → Triple 𝓤 (𝓣 .C #engine·check) (Check 𝓤 H A mem run) → Triple 𝓤 (𝓣 .C #engine·step) (One 𝓤 H A mem run)
+  walk : (𝓣 : Tables 𝓤 H) → Triple 𝓤 (𝓣 .C #engine·check) (Check 𝓤 H A mem run) → Triple 𝓤 (𝓣 .C #engine·step-sound) (One 𝓤 H A mem run)
       → ent 𝓤 (onEntry 𝓤 H A job.signature (κ, (κ′, tt)) (q, (q′, tt)) a vals) (WpFn 𝓤 H (𝓣 .C) (𝓣 .Λ) code.function (s ∷ t ∷ []) Post)
   walk 𝓣 known-check known-one =
       qed W ((‵ (flft κ q) ⊛ ‵ (flft κ′ q′) ⊛ ‵ ftrue) ∷ ‵ (owns (MutSlice (named 0) κ u16 ∷ ShrSlice (named 1) κ′ E.the-row ∷ []) a vals) ∷ []) ∵
@@ -371,7 +373,7 @@ module _ {M : Type 1} (𝓤 : URA M) (H : Heap 𝓤) (A : Atoms 𝓤) (W : Given
       pass1 ! (init ! 26 refl (tt, (tt, (record { fits = roomT .0 }, tt)))) $ pass1 ! (init ! 24 refl (tt, (tt, (record { fits = roomE .0 }, tt)))) $ pass0 ! $
       move ! (30 ∷ 31 ∷ 32 ∷ 33 ∷ []) $ begins 𝓣 known-check known-one l₀ l₁ l₂ l₃ l₄ l₅ l₆ l₇ l₈ l₉ l₁₀ l₁₁ l₁₂ l₁₃ l₁₄)))))))))))))))
 
-module _ {M : Type 1} (𝓤 : URA M) (H : Heap 𝓤) (A : Atoms 𝓤) (W : Given 𝓤 H A) (mem : Memory → SProp 𝓤) (run : Routine → Fun 𝓤) (𝓣 : Tables 𝓤 H) (known-check : Triple 𝓤 (𝓣 .C #engine·check) (Check 𝓤 H A mem run)) (known-one : Triple 𝓤 (𝓣 .C #engine·step) (One 𝓤 H A mem run)) where
+module _ {M : Type 1} (𝓤 : URA M) (H : Heap 𝓤) (A : Atoms 𝓤) (W : Given 𝓤 H A) (mem : Memory → SProp 𝓤) (run : Routine → Fun 𝓤) (𝓣 : Tables 𝓤 H) (known-check : Triple 𝓤 (𝓣 .C #engine·check) (Check 𝓤 H A mem run)) (known-one : Triple 𝓤 (𝓣 .C #engine·step-sound) (One 𝓤 H A mem run)) where
   run-walks : Walks 𝓤 H A job.ended stayed (WpFn 𝓤 H (𝓣 .C) (𝓣 .Λ) code.function) (job.clauses 𝓤 H A mem run)
   run-walks = walked 𝓤 H A job.ended stayed (job.clauses 𝓤 H A mem run) (WpFn 𝓤 H (𝓣 .C) (𝓣 .Λ) code.function)
       (λ κs. (slice-vals, (slice-vals, tt))) (λ κs. (mut-slice-tells (named 0) (κs .0) u16, (shr-slice-tells (named 1) (κs .1 .0) E.the-row, tt)))
@@ -389,4 +391,4 @@ vrolkant-run-spec 𝓤 H 𝓜 𝓖 𝓡 =
     (tables 𝓤 H 𝓜 𝓡 code.env .C) (tables 𝓤 H 𝓜 𝓡 code.env .Λ) #runner·vrolkant-run code.function (code.unfolded 𝓤 H 𝓜 𝓡)
     (run-meets 𝓤 H (𝓖 .A) (givenOf 𝓤 H 𝓜 𝓖) (𝓜 .mem) (𝓡 .run) (tablesOf 𝓤 H 𝓜 (tables 𝓤 H 𝓜 𝓡 code.env))
     (cited 𝓤 H (Check 𝓤 H (𝓖 .A) (𝓜 .mem) (𝓡 .run)) 𝓜 𝓡 code.env #engine·check check-def.routine code.calls-engine·check (check-thm.met 𝓤 H 𝓜 𝓖 𝓡))
-    (cited 𝓤 H (One 𝓤 H (𝓖 .A) (𝓜 .mem) (𝓡 .run)) 𝓜 𝓡 code.env #engine·step one-def.routine code.calls-engine·step (one-thm.met 𝓤 H 𝓜 𝓖 𝓡)))
+    (cited 𝓤 H (One 𝓤 H (𝓖 .A) (𝓜 .mem) (𝓡 .run)) 𝓜 𝓡 code.env #engine·step-sound one-def.routine code.calls-engine·step-sound (one-thm.met 𝓤 H 𝓜 𝓖 𝓡)))
