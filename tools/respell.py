@@ -40,6 +40,7 @@ LETTER = r"[^\s(){}\[\].,;:=|]"
 NAME = re.compile(LETTER + "+")
 SIGNATURE = re.compile(r"(?m)^( *)((?:(?:pub|abbrev|unfoldable|pattern) )*)(" + LETTER + r"+(?: " + LETTER + r"+)*) : ")
 DATA = re.compile(r"(?m)^ *(?:pub )?(?:data|record) (" + LETTER + r"+)")
+FIELD = re.compile(r"(?m)^ +(" + LETTER + r"+) : .*;$")
 USE = re.compile(r"(?m)^( *(?:ghost |pub )*use )(Rattle\.[^\s{}]+)\.\{([^}]*)\}")
 # a file of the repository's own, named as a module
 ALIAS = re.compile(r"(?m)^ *(?:pub )?use Rattle\.(\w+)\.(?:specs|proofs)\.([A-Z]\w*) as (" + LETTER + r"+)$")
@@ -90,6 +91,10 @@ def defined(text):
                     (fields if in_record is not None else names).add(name)
     for m in DATA.finditer(text):
         names.add(m[1])
+    # a record type without a name: a line for each field, ended by a semicolon
+    for m in FIELD.finditer(text):
+        fields.add(m[1])
+        names.discard(m[1])
     return names, fields
 
 

@@ -21,7 +21,7 @@ use Rattle.protocol.proofs.Progress.{obeyed_now, knows_now}
 
 -- what a server knows it goes on knowing
 remembers : (n : Counts) (c k i d : ℕ) (s : State) → Rows n s → Clients n s → T (has (s (row c k (known i))) d) → Remembers n c k i d s
-remembers n c k i d s rows clients knows more accepted uncrashed = ((since_run n s rows clients more accepted).grown c k).grow-known i d knows
+remembers n c k i d s rows clients knows more accepted uncrashed = ((since_run n s rows clients more accepted).grown c k).grow_known i d knows
 
 pub acknowledgement_stays : (n : Counts) (list : List Event) → Accepted n (fresh n) list → (c k i d : ℕ)
     → T (has (run n (fresh n) list (row c k (known i))) d) → Remembers n c k i d (run n (fresh n) list)
@@ -48,7 +48,7 @@ acknowledgement_due n list accepted c k i d arrives up gap later uncrashed =
     let m : Met n q (ack_arrives c k i d) = record {
       fit = there.fit;
       live = (equal (q (server_up i)) 1 (up_run n i gap (next n s e) uncrashed up), tt);
-      post = ((since.grown c k).grow-acked i d (obeyed_now n c k i is-client is-attempt is-server s d database).1, tt);
+      post = ((since.grown c k).grow_acked i d (obeyed_now n c k i is-client is-attempt is-server s d database).1, tt);
       must = tt;
     } in
     let arrived = since_step n (next n s e) q (ack_arrives c k i d) m since in (

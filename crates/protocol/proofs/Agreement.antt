@@ -28,21 +28,21 @@ pub reached_fresh : (n : Counts) → Reached n [] (fresh n)
 unfolding fresh
 reached_fresh n = record {
   rows = λ x y. record {
-    claim = record { owner-server = omega arith; owner-sent = λ h. absurd (omega arith); computed-owner = λ h. h };
-    votes = record { yes-voted = λ d t. t; heard-said = λ d t. t; heard-below = omega (arith, all_below n.databases) };
+    claim = record { owner_server = omega arith; owner_sent = λ h. absurd (omega arith); computed_owner = λ h. h };
+    votes = record { yes_voted = λ d t. t; heard_said = λ d t. t; heard_below = omega (arith, all_below n.databases) };
     register = record {
-      outcome-range = omega arith;
-      commit-yes = λ e. absurd (omega arith);
-      commit-value = λ e. refl;
-      commit-computed = λ e. absurd (omega arith);
+      outcome_range = omega arith;
+      commit_yes = λ e. absurd (omega arith);
+      commit_value = λ e. refl;
+      commit_computed = λ e. absurd (omega arith);
     };
     decisions = record {
-      decided-outcome = λ d t. absurd (has_zero d t);
-      committed-outcome = λ d t. absurd (has_zero d t);
-      decided-committed = λ e d t. t;
-      committed-decided = λ d t. t;
+      decided_outcome = λ d t. absurd (has_zero d t);
+      committed_outcome = λ d t. absurd (has_zero d t);
+      decided_committed = λ e d t. t;
+      committed_decided_lem = λ d t. t;
     };
-    answers = record { acked-decided = λ i d t. t; known-acked = λ i d t. t };
+    answers = record { acked_decided = λ i d t. t; known_acked = λ i d t. t };
   };
   clients = λ x. record {
     idle = λ e. refl;
@@ -83,7 +83,7 @@ module _ (n : Counts) (list : List Event) (s : State) (v : Reached n list s) whe
   begun : (c k : ℕ) → 1 ≤ k → s (row c k outcome) ≡ 1 → k ≤ s (attempt c)
   begun c k low one =
       let r = v.rows c k in
-      (owned_reached n s v.rows v.clients c k low (r.claim.computed-owner (r.register.commit-computed one))).1
+      (owned_reached n s v.rows v.clients c k low (r.claim.computed_owner (r.register.commit_computed one))).1
 
   -- and every attempt before that was aborted
   one_commit : (c k l : ℕ) → 1 ≤ k → s (row c k outcome) ≡ 1 → s (row c l outcome) ≡ 1 → k < l → ⊥
@@ -93,31 +93,31 @@ module _ (n : Counts) (list : List Event) (s : State) (v : Reached n list s) whe
   delivered_computed : (c : ℕ) → s (phase c) ≡ 2 → s (delivered c) ≡ s (row c (s (attempt c)) computed)
   delivered_computed c two =
       let d = (v.clients c).done two in
-      d.right-value ∙ (v.rows c (s (attempt c))).register.commit-value d.commits
+      d.right_value ∙ (v.rows c (s (attempt c))).register.commit_value d.commits
 
   agrees : Agreement n list s
   agrees = record {
     A1 = λ c client two d database.
         let all = ((v.clients c).done two).everywhere d database in
-        ((v.rows c (s (attempt c))).decisions.committed-decided d all, all);
+        ((v.rows c (s (attempt c))).decisions.committed_decided_lem d all, all);
     A2 = λ c k l d client attempt-k attempt-l database t u.
-        let one = (v.rows c k).decisions.committed-outcome d t in
-        let other = (v.rows c l).decisions.committed-outcome d u in
+        let one = (v.rows c k).decisions.committed_outcome d t in
+        let other = (v.rows c l).decisions.committed_outcome d u in
         omega (arith, one_commit c k l attempt-k.0 one other, one_commit c l k attempt-l.0 other one);
     A3 = λ c k d e client attempt database other. alike n (row_of s c k) (v.rows c k) d e;
-    committed_decided = λ c k d client attempt database. (v.rows c k).decisions.committed-decided d;
+    committed_decided = λ c k d client attempt database. (v.rows c k).decisions.committed_decided_lem d;
     V1 = λ c client two.
         let r = v.rows c (s (attempt c)) in
-        let h = r.register.commit-computed ((v.clients c).done two).commits in (
+        let h = r.register.commit_computed ((v.clients c).done two).commits in (
           s (row c (s (attempt c)) owner),
-          (r.claim.computed-owner h, r.claim.owner-server),
+          (r.claim.computed_owner h, r.claim.owner_server),
           rw (delivered_computed c two) ((v.history.traced c (s (attempt c))).worked ((v.clients c).busy (omega arith)) h),
         );
     V1Only = λ c client two i x h. sym (delivered_computed c two ∙ (v.once c (s (attempt c)) i x h).1);
-    delivers = λ c client two. ((v.clients c).done two).right-value;
+    delivers = λ c client two. ((v.clients c).done two).right_value;
     V2 = λ c k d client attempt database t e other.
-        let said = (v.rows c k).register.commit-yes ((v.rows c k).decisions.committed-outcome d t) e other in
-        ((v.rows c k).votes.yes-voted e said, said);
+        let said = (v.rows c k).register.commit_yes ((v.rows c k).decisions.committed_outcome d t) e other in
+        ((v.rows c k).votes.yes_voted e said, said);
   }
 
 -- (for any counts: their ranges play no part)

@@ -76,8 +76,8 @@ module _ (n : Counts) (s : State) (clients : Clients n s) (x : ℕ) where
           let written : 0 < current outcome = omega arith in
           record {
             commits = (grows (s (attempt x))).same_outcome written ∙ d.commits;
-            right_value = d.right-value ∙ sym ((grows (s (attempt x))).same-value written);
-            everywhere = λ j database. (grows (s (attempt x))).grow-committed j (d.everywhere j database);
+            right_value = d.right_value ∙ sym ((grows (s (attempt x))).same_value written);
+            everywhere = λ j database. (grows (s (attempt x))).grow_committed j (d.everywhere j database);
           };
     }
 
@@ -117,8 +117,8 @@ module _ (n : Counts) (s : State) (rows : Rows n s) (clients : Clients n s) wher
   known_committed : (c k i : ℕ) → s (row c k outcome) ≡ 1 → T (has_all n.databases (s (row c k (known i)))) → Everyone n (s (row c k committed))
   known_committed c k i o t d database =
       let r = rows c k in
-      r.decisions.decided-committed o d
-      (r.answers.acked-decided i d (r.answers.known-acked i d (has_all_has n.databases (s (row c k (known i))) d t database.0 database.1)))
+      r.decisions.decided_committed o d
+      (r.answers.acked_decided i d (r.answers.known_acked i d (has_all_has n.databases (s (row c k (known i))) d t database.0 database.1)))
 
   pub clients_step : (e : Event) → Met n s e → Clients n (next n s e)
   unfolding next
@@ -159,7 +159,7 @@ module _ (n : Counts) (s : State) (rows : Rows n s) (clients : Clients n s) wher
       (grows_step n s rows (result_arrives c k i) m)
     where
       aborted : (s (row c k outcome) ≡ 1 → ⊥) → s (row c k outcome) ≡ 2
-      aborted other = omega (arith, other, ltb→lt, m.post, (rows c k).register.outcome-range)
+      aborted other = omega (arith, other, ltb→lt, m.post, (rows c k).register.outcome_range)
 
       still_one : Waits s c k → (x : ℕ) → cond (eqb c x) 1 (s (phase x)) ≡ s (phase x)
       still_one waits x = by_cond (λ z. z ≡ s (phase x)) (eqb c x) 1 (s (phase x)) (λ t. sym (rw (← eqb→eq c x t) waits.0)) (λ t. refl)
@@ -179,4 +179,4 @@ module _ (n : Counts) (s : State) (rows : Rows n s) (clients : Clients n s) wher
 
   -- who owns it was asked
   pub owned_reached : (c k : ℕ) → 1 ≤ k → 0 < s (row c k owner) → (1 ≤ s (phase c)) × (k ≤ s (attempt c))
-  owned_reached c k low owned = sent_reached c k low (has_positive (s (row c k sent)) (s (row c k owner)) ((rows c k).claim.owner-sent owned))
+  owned_reached c k low owned = sent_reached c k low (has_positive (s (row c k sent)) (s (row c k owner)) ((rows c k).claim.owner_sent owned))

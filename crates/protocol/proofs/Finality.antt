@@ -21,16 +21,16 @@ same_commit : (n : Counts) (r q : Row) → RowInvariant n r → RowInvariant n q
 same_commit n r q before later grows d t =
     same_answer (has (q committed) d) (has (r committed) d)
     (λ u.
-    let stays = grows.same_outcome (before.decisions.decided-outcome d t) in
-    before.decisions.decided-committed (sym stays ∙ later.decisions.committed-outcome d u) d t)
-    (grows.grow-committed d)
+    let stays = grows.same_outcome (before.decisions.decided_outcome d t) in
+    before.decisions.decided_committed (sym stays ∙ later.decisions.committed_outcome d u) d t)
+    (grows.grow_committed d)
 
 pub finality : (n : Counts) (list more : List Event) → Accepted n (fresh n) list → Accepted n (run n (fresh n) list) more
     → Final (run n (fresh n) list) (run n (run n (fresh n) list) more)
 finality n list more accepted later = record {
-  decided_stays = λ c k d t. ((grown c k).grow-decided d t, same_commit n (row_of s c k) (row_of q c k) (before.rows c k) (after.rows c k) (grown c k) d t);
-  owner_stays = λ c k owned. (grown c k).same-owner owned;
-  outcome_stays = λ c k written. ((grown c k).same_outcome written, (grown c k).same-value written);
+  decided_stays = λ c k d t. ((grown c k).grow_decided d t, same_commit n (row_of s c k) (row_of q c k) (before.rows c k) (after.rows c k) (grown c k) d t);
+  owner_stays = λ c k owned. (grown c k).same_owner owned;
+  outcome_stays = λ c k written. ((grown c k).same_outcome written, (grown c k).same_value written);
   served_stays = λ c two. rests c (omega arith);
   given_up_stays = λ c three. rests c (omega arith);
 }

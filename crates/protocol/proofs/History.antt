@@ -99,7 +99,7 @@ module _ (n : Counts) (list : List Event) (s : State) (rows : Rows n s) (clients
             let z : s (phase x) ≡ 0 = rw (← eqb→eq c x t) (eqb→eq (s (phase c)) 0 m.must.0) in
             record {
               claimed = λ low h. absurd (unclaimed x y z low h);
-              worked = λ low h. absurd (unclaimed x y z low ((rows x y).claim.computed-owner h));
+              worked = λ low h. absurd (unclaimed x y z low ((rows x y).claim.computed_owner h));
             })
             (old.traced x y);
       }
@@ -114,7 +114,7 @@ module _ (n : Counts) (list : List Event) (s : State) (rows : Rows n s) (clients
             (λ z. record {
               claimed = λ low h. in_last (request_arrives c k i)
                   (history.issued c (sent_reached n s rows clients c k low (has_positive (s (row c k sent)) i m.post.0)).0);
-              worked = λ low h. absurd (omega (arith, (rows c k).claim.computed-owner h));
+              worked = λ low h. absurd (omega (arith, (rows c k).claim.computed_owner h));
             })
             (λ h. old.traced c k));
       }
@@ -175,6 +175,6 @@ module _ (n : Counts) (list : List Event) (s : State) (rows : Rows n s) (once : 
   once_step e m c k i v h =
       elim (in_split (compute c k i v) e list h) [
         | inl before ↦ let old = once c k i v before in
-            (old.0, (grows_step n s rows e m c k).same-computed (rw old.1 old.0) ∙ old.1)
+            (old.0, (grows_step n s rows e m c k).same_computed (rw old.1 old.0) ∙ old.1)
         | inr last ↦ subst (λ x. Met n s x → (0 < v) × (next n s x (row c k computed) ≡ v)) last (computed_now c k i v) m
       ]

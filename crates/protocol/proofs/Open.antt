@@ -76,7 +76,7 @@ module _ (n : Counts) (c k d : ℕ) where
   -- what is yes or decided in a reached state is so at the end
   lasts : (list : List Event) (s : State) → Accepted n s list → Since n (fresh n) s
       → (T (said_yes s) → T (said_yes (run n s list))) × (T (has_decided s) → T (has_decided (run n s list)))
-  lasts list s a since = let grown = (since_run n s since.rows since.clients list a).grown c k in (grown.grow-votedYes d, grown.grow-decided d)
+  lasts list s a since = let grown = (since_run n s since.rows since.clients list a).grown c k in (grown.grow_voted_yes d, grown.grow_decided d)
 
   end_undecided : (list : List Event) (s : State) → Accepted n s list → Since n (fresh n) s
       → T (not (has_decided (run n s list))) → Undecided n c k d s list

@@ -54,9 +54,9 @@ module _ (n : Counts) (c k i : ℕ) (is-client : Id n.clients c) (is-attempt : I
   cleaned_since s q cleaned since = let grown = since.grown c k in record {
     rows = since.rows;
     clients = since.clients;
-    owned = rw (grown.same-owner cleaned.owned) cleaned.owned;
+    owned = rw (grown.same_owner cleaned.owned) cleaned.owned;
     ruled = rw (grown.same_outcome cleaned.ruled) cleaned.ruled;
-    sender = grown.grow-terminating i cleaned.sender;
+    sender = grown.grow_terminating i cleaned.sender;
   }
 
   after : (s : State) → Cleaned s → (gap : List Event) → Accepted n s gap → Since n s (run n s gap)
@@ -73,7 +73,7 @@ module _ (n : Counts) (c k i : ℕ) (is-client : Id n.clients c) (is-attempt : I
       let q = run n s gap in
       let since = after s cleaned gap accepted in
       let still = cleaned_since s q cleaned since in
-      let all_Known = has_has_all n.databases (q (row c k (known i))) (λ d low high. (since.grown c k).grow-known i d (knows d (low, high))) in
+      let all_Known = has_has_all n.databases (q (row c k (known i))) (λ d low high. (since.grown c k).grow_known i d (knows d (low, high))) in
       let m : Met n q e = record {
         fit = named (tt and tt and tt);
         live = (equal (q (client_up c)) 1 up, tt);
@@ -109,7 +109,7 @@ module _ (n : Counts) (c k i : ℕ) (is-client : Id n.clients c) (is-attempt : I
       let m : Met n q e = record {
         fit = named (id_inside n.databases d database and tt and tt);
         live = (equal (q (server_up i)) 1 up, tt);
-        post = ((before.grown c k).grow-acked i d (state.acks d database), tt);
+        post = ((before.grown c k).grow_acked i d (state.acks d database), tt);
         must = tt;
       } in
       let since = since_step n s q e m before in
@@ -119,10 +119,10 @@ module _ (n : Counts) (c k i : ℕ) (is-client : Id n.clients c) (is-attempt : I
         holds = record {
           cleaned = cleaned_since s (next n q e) state.cleaned since;
           up = up;
-          acks = λ x range. grown.grow-acked i x (state.acks x range);
+          acks = λ x range. grown.grow_acked i x (state.acks x range);
         };
         done = knows_now q d database.0;
-        stay = grown.grow-known i;
+        stay = grown.grow_known i;
       }
 
   acknowledges : (s : State) → Acked s → (ds : List ℕ) → Completes n.databases (s (row c k (known i))) ds
@@ -165,7 +165,7 @@ module _ (n : Counts) (c k i : ℕ) (is-client : Id n.clients c) (is-attempt : I
         accepted = meets n q e m;
         holds = cleaned_since s (next n q e) cleaned since;
         done = obeyed_now q d database.0;
-        stay = λ x obeyed. (grown.grow-decided x obeyed.0, grown.grow-acked i x obeyed.1);
+        stay = λ x obeyed. (grown.grow_decided x obeyed.0, grown.grow_acked i x obeyed.1);
       }
 
   settled : (s : State) → Rows n s → Everyone n (s (row c k decided)) → Settled n c k s
@@ -178,7 +178,7 @@ module _ (n : Counts) (c k i : ℕ) (is-client : Id n.clients c) (is-attempt : I
   all_obeyed : (s : State) → Cleaned s → ((d : ℕ) → Id n.databases d → Obeyed s d) → Decided n c k i s
   all_obeyed s cleaned all = record {
     for_good = λ more accepted. let since = after s cleaned more accepted in
-        settled (run n s more) since.rows (λ d database. (since.grown c k).grow-decided d (all d database).0);
+        settled (run n s more) since.rows (λ d database. (since.grown c k).grow_decided d (all d database).0);
     answered = λ up. acknowledges s (record { cleaned = cleaned; up = up; acks = λ d database. (all d database).1 });
   }
 
@@ -202,7 +202,7 @@ module _ (n : Counts) (c k i : ℕ) (is-client : Id n.clients c) (is-attempt : I
         let e = clean c k i in
         let q = run n s gap in
         let before = since_run n s rows clients gap accepted in
-        let still : q (row c k owner) ≡ o = (before.grown c k).same-owner (omega arith) ∙ owns in
+        let still : q (row c k owner) ≡ o = (before.grown c k).same_owner (omega arith) ∙ owns in
         let suspects_still : T (has (q (suspects i)) (q (row c k owner))) = rw still (suspects_run n i o gap s calm.1 suspected) in
         let m : Met n q e = record {
           fit = named (tt and tt and tt);
@@ -214,7 +214,7 @@ module _ (n : Counts) (c k i : ℕ) (is-client : Id n.clients c) (is-attempt : I
         let cleaned : Cleaned (next n q e) = record {
           rows = since.rows;
           clients = since.clients;
-          owned = rw ((since.grown c k).same-owner (omega arith)) (omega arith);
+          owned = rw ((since.grown c k).same_owner (omega arith)) (omega arith);
           ruled = (clean_now q).0;
           sender = (clean_now q).1;
         } in (
@@ -241,12 +241,12 @@ module _ (n : Counts) (c k i : ℕ) (is-client : Id n.clients c) (is-attempt : I
           must = (unequal i o other, tt);
         } in
         let since = since_step n s q e m (since_run n s rows clients gap accepted) in
-        let owns-still = (since.grown c k).same-owner (omega arith) ∙ owns in
+        let owns-still = (since.grown c k).same_owner (omega arith) ∙ owns in
         (meets n q e m, cleaning (next n q e) since.rows since.clients owns-still still (suspected_now q))
 
 pub progress : (n : Counts) (list : List Event) → Accepted n (fresh n) list → Progress n (run n (fresh n) list)
 progress n list accepted c k i is-client is-attempt is-server owned other up ds covers =
     let s = run n (fresh n) list in
     let since = since_run n (fresh n) (reached_fresh n).rows (reached_fresh n).clients list accepted in
-    let is_owner : Id n.servers (s (row c k owner)) = (owned, (since.rows c k).claim.owner-server) in
+    let is_owner : Id n.servers (s (row c k owner)) = (owned, (since.rows c k).claim.owner_server) in
     plan n c k i is-client is-attempt is-server (s (row c k owner)) is_owner other ds covers s since.rows since.clients refl up

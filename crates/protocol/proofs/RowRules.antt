@@ -42,22 +42,22 @@ module _ (n : Counts) (r : Row) (v : RowInvariant n r) where
   -- 1 and 14: what was sent stays sent
   pub calls_keep : Keeps n r (store_fields r (calls r))
   calls_keep =
-      let owner_sent : 0 < r owner → T (has (with (r sent) 1) (r owner)) = λ h. keep (r sent) 1 (r owner) (v.claim.owner-sent h) in
+      let owner_sent : 0 < r owner → T (has (with (r sent) 1) (r owner)) = λ h. keep (r sent) 1 (r owner) (v.claim.owner_sent h) in
       search (v, grows_refl r)
 
   -- 2: the owner is one of all servers
   pub timeout_keeps : Keeps n r (store_fields r ((sent, all n.servers) ∷ []))
   timeout_keeps =
-      let owner_sent : 0 < r owner → T (has (all n.servers) (r owner)) = λ h. has_all_in n.servers (r owner) h v.claim.owner-server in
+      let owner_sent : 0 < r owner → T (has (all n.servers) (r owner)) = λ h. has_all_in n.servers (r owner) h v.claim.owner_server in
       search (v, grows_refl r)
 
   -- 3: the register of claims keeps its first
   pub request_keeps : (i : ℕ) → Id n.servers i → All (request_rule i r).sent_if → Keeps n r (after r (request_rule i r))
   request_keeps i server sent_if =
-      let owner-server = claim_elim (λ o. o ≤ n.servers) (r owner) i (λ e. server.1) (λ h. v.claim.owner-server) in
-      let owner_sent = claim_elim (λ o. 0 < o → T (has (r sent) o)) (r owner) i (λ e h. sent_if.0) (λ h. v.claim.owner-sent) in
+      let owner_server = claim_elim (λ o. o ≤ n.servers) (r owner) i (λ e. server.1) (λ h. v.claim.owner_server) in
+      let owner_sent = claim_elim (λ o. 0 < o → T (has (r sent) o)) (r owner) i (λ e h. sent_if.0) (λ h. v.claim.owner_sent) in
       let computed_owner : 0 < r computed → 0 < claimed (r owner) i = λ h. claim_elim (λ o. 0 < o) (r owner) i (λ e. server.0) (λ h. h) in
-      let same-owner = claim_once (r owner) i in
+      let same_owner = claim_once (r owner) i in
       search (v, grows_refl r)
 
   -- 4: nothing was computed, so nothing was offered as commit
@@ -65,8 +65,8 @@ module _ (n : Counts) (r : Row) (v : RowInvariant n r) where
   compute_keeps i x low must =
       let none : r computed ≡ 0 = eqb→eq (r computed) 0 must.1.0 in
       let computed_owner : 0 < x → 0 < r owner = λ h. omega (arith, eqb→eq (r owner) i must.0) in
-      let commit_value : r outcome ≡ 1 → r value ≡ x = λ e. absurd (omega (arith, v.register.commit-computed e)) in
-      let commit_computed : r outcome ≡ 1 → 0 < x = λ e. absurd (omega (arith, v.register.commit-computed e)) in
+      let commit_value : r outcome ≡ 1 → r value ≡ x = λ e. absurd (omega (arith, v.register.commit_computed e)) in
+      let commit_computed : r outcome ≡ 1 → 0 < x = λ e. absurd (omega (arith, v.register.commit_computed e)) in
       let same_computed : 0 < r computed → x ≡ r computed = λ h. absurd (omega arith) in
       search (v, grows_refl r)
 
@@ -80,10 +80,10 @@ module _ (n : Counts) (r : Row) (v : RowInvariant n r) where
   votes_keep d answer low =
       by_bool (λ b. Keeps n r (voted_as b d answer)) (not (has (r voted) d))
       (λ t.
-      let yes-voted = put_with (r voted_yes) (r voted) d answer low v.votes.yes-voted in
-      let grow-votedYes = keep_other (r voted_yes) d answer (λ u. T_not (has (r voted) d) t (v.votes.yes-voted d u)) in
-      let heard_said : Within (r heard_yes) (put (r voted_yes) d answer) = λ j u. grow-votedYes j (v.votes.heard-said j u) in
-      let commit_yes : r outcome ≡ 1 → Everyone n (put (r voted_yes) d answer) = λ e j database. grow-votedYes j (v.register.commit-yes e j database) in
+      let yes_voted = put_with (r voted_yes) (r voted) d answer low v.votes.yes_voted in
+      let grow_voted_yes = keep_other (r voted_yes) d answer (λ u. T_not (has (r voted) d) t (v.votes.yes_voted d u)) in
+      let heard_said : Within (r heard_yes) (put (r voted_yes) d answer) = λ j u. grow_voted_yes j (v.votes.heard_said j u) in
+      let commit_yes : r outcome ≡ 1 → Everyone n (put (r voted_yes) d answer) = λ e j database. grow_voted_yes j (v.register.commit_yes e j database) in
       search (v, grows_refl r))
       (search (v, grows_refl r))
 
@@ -97,8 +97,8 @@ module _ (n : Counts) (r : Row) (v : RowInvariant n r) where
   hears_keep listening d says high said =
       by_bool (λ b. Keeps n r (store_fields r (hears b d says r))) listening
       (λ t.
-      let heard_said = put_elim (λ j. T (has (r voted_yes) j)) (r heard_yes) d says said v.votes.heard-said in
-      let heard-below = put_below n.databases (r heard_yes) d says v.votes.heard-below high in
+      let heard_said = put_elim (λ j. T (has (r voted_yes) j)) (r heard_yes) d says said v.votes.heard_said in
+      let heard_below = put_below n.databases (r heard_yes) d says v.votes.heard_below high in
       search (v, grows_refl r))
       (search (v, grows_refl r))
 
@@ -117,12 +117,12 @@ module _ (n : Counts) (r : Row) (v : RowInvariant n r) where
   -- a register that is empty takes the offer, and then nobody has decided yet
   offers_keep : (decision : Decision) (i : ℕ) → Founded decision → Keeps n r (store_fields r (offers decision r (terminates i r)))
   offers_keep decision i founded =
-      let grow-terminating = keep (r terminating) i in
+      let grow_terminating = keep (r terminating) i in
       offer_elim (λ o x. Keeps n r (store_fields r ((outcome, o) ∷ (value, x) ∷ terminates i r))) (r outcome) (r value) decision
       (λ empty.
-      let undecided : (d : ℕ) → T (has (r decided) d) → ⊥ = λ d u. omega (arith, v.decisions.decided-outcome d u) in
-      let uncommitted : (d : ℕ) → T (has (r committed) d) → ⊥ = λ d u. undecided d (v.decisions.committed-decided d u) in
-      let outcome-range = outcome_most decision in
+      let undecided : (d : ℕ) → T (has (r decided) d) → ⊥ = λ d u. omega (arith, v.decisions.decided_outcome d u) in
+      let uncommitted : (d : ℕ) → T (has (r committed) d) → ⊥ = λ d u. undecided d (v.decisions.committed_decided_lem d u) in
+      let outcome_range = outcome_most decision in
       let commit_yes : outcome_of decision ≡ 1 → Everyone n (r voted_yes) = λ e. (founded e).0 in
       let commit_value : outcome_of decision ≡ 1 → value_of decision ≡ r computed = λ e. (founded e).1 in
       let commit_computed : outcome_of decision ≡ 1 → 0 < r computed = λ e. (founded e).2 in
@@ -140,8 +140,8 @@ module _ (n : Counts) (r : Row) (v : RowInvariant n r) where
       by_cond (λ decision. Keeps n r (store_fields r (offers decision r (terminates i r)))) (eqb (count (r heard_yes)) n.databases)
       (Commit (r computed)) Abort
       (λ t.
-      let whole = counted_all n.databases (r heard_yes) v.votes.heard-below (eqb→eq (count (r heard_yes)) n.databases t) in
-      let yes_all : Everyone n (r voted_yes) = λ d database. v.votes.heard-said d (has_all_has n.databases (r heard_yes) d whole database.0 database.1) in
+      let whole = counted_all n.databases (r heard_yes) v.votes.heard_below (eqb→eq (count (r heard_yes)) n.databases t) in
+      let yes_all : Everyone n (r voted_yes) = λ d database. v.votes.heard_said d (has_all_has n.databases (r heard_yes) d whole database.0 database.1) in
       offers_keep (Commit (r computed)) i (λ e. (yes_all, refl, ltb→lt 0 (r computed) must.1.0)))
       (λ t. offers_keep Abort i (λ e. absurd (omega arith)))
 
@@ -152,20 +152,20 @@ module _ (n : Counts) (r : Row) (v : RowInvariant n r) where
   -- 12: a database that has decided stays as it is, and acknowledges in any case
   pub decide_keeps : (i d : ℕ) → 1 ≤ d → All (decide_rule i d r).sent_if → Keeps n r (after r (decide_rule i d r))
   decide_keeps i d low sent_if =
-      let grow-acked = keep_at (λ k. r (acked k)) i d in
-      let known_acked : (k : ℕ) → Within (r (known k)) (acks k) = λ k j u. grow-acked k j (v.answers.known-acked k j u) in
+      let grow_acked = keep_at (λ k. r (acked k)) i d in
+      let known_acked : (k : ℕ) → Within (r (known k)) (acks k) = λ k j u. grow_acked k j (v.answers.known_acked k j u) in
       by_both (λ b. Keeps n r (decided_if b)) (not (has (r decided) d))
       (λ t.
-      let grow-decided = keep (r decided) d in
-      let grow-committed = keep_other (r committed) d commit (λ u. T_not (has (r decided) d) t (v.decisions.committed-decided d u)) in
+      let grow_decided = keep (r decided) d in
+      let grow_committed = keep_other (r committed) d commit (λ u. T_not (has (r decided) d) t (v.decisions.committed_decided_lem d u)) in
       let decided_outcome : (j : ℕ) → T (has (with (r decided) d) j) → 0 < r outcome = λ j u. ltb→lt 0 (r outcome) sent_if.1.0 in
-      let committed_outcome = put_elim (λ j. r outcome ≡ 1) (r committed) d commit (eqb→eq (r outcome) 1) v.decisions.committed-outcome in
-      let decided_committed = all_committed grow-committed in
-      let committed-decided = put_with (r committed) (r decided) d commit low v.decisions.committed-decided in
-      let acked-decided = all_acked (with (r decided) d) (mark (r decided) d low) grow-decided in
+      let committed_outcome = put_elim (λ j. r outcome ≡ 1) (r committed) d commit (eqb→eq (r outcome) 1) v.decisions.committed_outcome in
+      let decided_committed = all_committed grow_committed in
+      let committed_decided_lem = put_with (r committed) (r decided) d commit low v.decisions.committed_decided_lem in
+      let acked_decided = all_acked (with (r decided) d) (mark (r decided) d low) grow_decided in
       search (v, grows_refl r))
       (λ t.
-      let acked-decided = all_acked (r decided) (not_not (has (r decided) d) t) (λ j u. u) in
+      let acked_decided = all_acked (r decided) (not_not (has (r decided) d) t) (λ j u. u) in
       search (v, grows_refl r))
     where
       commit : Bool
@@ -184,14 +184,14 @@ module _ (n : Counts) (r : Row) (v : RowInvariant n r) where
       all_committed : Within (r committed) (put (r committed) d commit) → r outcome ≡ 1 → Within (with (r decided) d) (put (r committed) d commit)
       all_committed grow e =
           with_elim (λ j. T (has (put (r committed) d commit) j)) (r decided) d
-          (rw has_put_same (rw e tt)) (λ j u. grow j (v.decisions.decided-committed e j u))
+          (rw has_put_same (rw e tt)) (λ j u. grow j (v.decisions.decided_committed e j u))
 
       all_acked : (m : ℕ) → T (has m d) → Within (r decided) m → (k : ℕ) → Within (acks k) m
-      all_acked m t grow = at_elim (λ k j. T (has m j)) (λ k. r (acked k)) i d t (λ k j u. grow j (v.answers.acked-decided k j u))
+      all_acked m t grow = at_elim (λ k j. T (has m j)) (λ k. r (acked k)) i d t (λ k j u. grow j (v.answers.acked_decided k j u))
 
   -- 13: the acknowledgement was sent
   pub ack_keeps : (i d : ℕ) → All (ack_rule i d r).sent_if → Keeps n r (after r (ack_rule i d r))
   ack_keeps i d sent_if =
-      let known_acked = at_elim (λ k j. T (has (r (acked k)) j)) (λ k. r (known k)) i d sent_if.0 v.answers.known-acked in
-      let grow-known = keep_at (λ k. r (known k)) i d in
+      let known_acked = at_elim (λ k j. T (has (r (acked k)) j)) (λ k. r (known k)) i d sent_if.0 v.answers.known_acked in
+      let grow_known = keep_at (λ k. r (known k)) i d in
       search (v, grows_refl r)

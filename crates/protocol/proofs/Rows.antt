@@ -78,8 +78,8 @@ pub alike : (n : Counts) (r : Row) → RowInvariant n r → (d e : ℕ) → T (h
     → has (r committed) d ≡ has (r committed) e
 alike n r v d e t u =
     same_answer (has (r committed) d) (has (r committed) e)
-    (λ w. v.decisions.decided-committed (v.decisions.committed-outcome d w) e u)
-    (λ w. v.decisions.decided-committed (v.decisions.committed-outcome e w) d t)
+    (λ w. v.decisions.decided_committed (v.decisions.committed_outcome d w) e u)
+    (λ w. v.decisions.decided_committed (v.decisions.committed_outcome e w) d t)
 
 -- ---- what a row never loses
 
@@ -104,14 +104,14 @@ grows_refl r = search
 
 pub grows_trans : (r q p : Row) → Grows r q → Grows q p → Grows r p
 grows_trans r q p f g = record {
-  same_owner = λ h. g.same-owner (rw (f.same-owner h) h) ∙ f.same-owner h;
-  same_computed = λ h. g.same-computed (rw (f.same-computed h) h) ∙ f.same-computed h;
+  same_owner = λ h. g.same_owner (rw (f.same_owner h) h) ∙ f.same_owner h;
+  same_computed = λ h. g.same_computed (rw (f.same_computed h) h) ∙ f.same_computed h;
   same_outcome = λ h. g.same_outcome (rw (f.same_outcome h) h) ∙ f.same_outcome h;
-  same_value = λ h. g.same-value (rw (f.same_outcome h) h) ∙ f.same-value h;
-  grow_voted_yes = λ d t. g.grow-votedYes d (f.grow-votedYes d t);
-  grow_terminating = λ i t. g.grow-terminating i (f.grow-terminating i t);
-  grow_decided = λ d t. g.grow-decided d (f.grow-decided d t);
-  grow_committed = λ d t. g.grow-committed d (f.grow-committed d t);
-  grow_acked = λ i d t. g.grow-acked i d (f.grow-acked i d t);
-  grow_known = λ i d t. g.grow-known i d (f.grow-known i d t);
+  same_value = λ h. g.same_value (rw (f.same_outcome h) h) ∙ f.same_value h;
+  grow_voted_yes = λ d t. g.grow_voted_yes d (f.grow_voted_yes d t);
+  grow_terminating = λ i t. g.grow_terminating i (f.grow_terminating i t);
+  grow_decided = λ d t. g.grow_decided d (f.grow_decided d t);
+  grow_committed = λ d t. g.grow_committed d (f.grow_committed d t);
+  grow_acked = λ i d t. g.grow_acked i d (f.grow_acked i d t);
+  grow_known = λ i d t. g.grow_known i d (f.grow_known i d t);
 }
