@@ -1,4 +1,6 @@
 // Prints the listing of every stored input: data/001, data/002 and so on, each behind a line with its name.
+#![tactic(auto)]
+
 
 // Prints one stored input, and answers whether there is one of this number.
 fn print_case(number: u16) -> bool {

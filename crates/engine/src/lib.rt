@@ -1,4 +1,6 @@
 // The engine: set up a fresh table, and apply one event to a table, whatever the caller lends.
+#![tactic(auto)]
+
 ghost use Rattle.std.specs.Prelude.{◌≡◌, true, T, eqb};
 ghost use Rattle.lists.specs.Tests.{every, inside};
 ghost use Rattle.protocol.specs.Cells.{server_up, database_up, client_up};

@@ -1,4 +1,6 @@
 // Writes the fresh table into lent cells: clears them all, writes the header, and raises every party's up cell.
+#![tactic(auto)]
+
 ghost use Rattle.std.specs.Prelude.{◌≡◌, ◌+◌, ◌*◌, ◌≤◌, length, replicate};
 ghost use Rattle.table.specs.Layout.{table_length};
 ghost use Rattle.table.specs.Table.{fresh_table};

@@ -1,4 +1,6 @@
 // What the rules of a row ask: the row as a struct, read from the lent cells, and a gate for each rule.
+#![tactic(auto)]
+
 ghost use Rattle.std.specs.Prelude.{◌≡◌, ◌&&◌, ◌≤◌, eqb, length};
 ghost use Rattle.protocol.specs.declared.Counts.{Counts};
 ghost use Rattle.protocol.specs.Rules.{listens, verdict, request_rule, compute_rule, prepare_rule, vote_rule, ready_rule, write_rule, clean_rule, decide_rule};

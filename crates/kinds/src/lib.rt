@@ -1,4 +1,6 @@
 // The table of kinds, and the one field check that consults it.
+#![tactic(auto)]
+
 ghost use Rattle.std.specs.Prelude.{◌≡◌, ◌≤◌, T};
 ghost use Rattle.lists.specs.Tests.{every};
 ghost use Rattle.protocol.specs.declared.Counts.{Counts};

@@ -1,4 +1,6 @@
 // Where cells lie in the table, as code: the lengths of a row and of the table, and the places of the parties and of the rows.
+#![tactic(auto)]
+
 ghost use Rattle.std.specs.Prelude.{◌≡◌, ◌≤◌, length};
 ghost use Rattle.lists.specs.Tests.{every, inside};
 ghost use Rattle.protocol.specs.declared.Counts.{Counts as Setup};

@@ -1,4 +1,6 @@
 // Applies stored events to stored tables, data/001, data/002 and so on: each event alone, then all as a list. Prints every number and every cell.
+#![tactic(auto)]
+
 ghost use Rattle.std.specs.Prelude.{◌≡◌, ◌≤◌, ◌<◌, length};
 ghost use Rattle.lent.specs.Count.{cell_count};
 

@@ -1,4 +1,6 @@
 // The lines of the listing program: the first line and the event lines read, the lines of its output written.
+#![tactic(auto)]
+
 ghost use Rattle.std.specs.Prelude.{◌≡◌, [], ◌∷◌, drop};
 ghost use Rattle.text.specs.Writing.{puts, line};
 ghost use Rattle.lines.specs.Lines.{read_counts, read_event, client_text, result_text};

@@ -1,4 +1,6 @@
 // The listing program: prints the listing of the file that its argument names, or of its standard input where it has none.
+#![tactic(auto)]
+
 use libc::STDIN_FILENO;
 
 // Prints the listing of a named file, or says why it cannot be opened.

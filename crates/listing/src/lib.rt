@@ -1,4 +1,6 @@
 // The listing of an input, as paper 01's listing program prints it, in one function on slices.
+#![tactic(auto)]
+
 ghost use Rattle.std.specs.Prelude.{◌≡◌, [], ◌∷◌, ◌≤◌, min, T, length, drop};
 ghost use Rattle.protocol.specs.declared.Counts.{Counts as Setup};
 ghost use Rattle.protocol.specs.Agreement.{Id};

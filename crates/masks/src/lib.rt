@@ -1,4 +1,6 @@
 // A 16-bit number as a set of parties: bit i - 1 stands for party i.
+#![tactic(auto)]
+
 ghost use Rattle.std.specs.Prelude.{◌≡◌, ◌≤◌};
 ghost use Rattle.masks.specs.Mask.{has, with, without, put, all, has_all, count};
 

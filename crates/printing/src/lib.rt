@@ -1,4 +1,6 @@
 // Reads an input from a descriptor, writes its listing to standard output, and opens the stored inputs of a program one by one.
+#![tactic(auto)]
+
 ghost use Rattle.std.specs.Prelude.{◌≡◌, ◌≤◌, length};
 ghost use Rattle.printing.specs.Got.{got_bytes};
 

@@ -1,8 +1,9 @@
 // The protocol: paper 01 as definitions (specs/), and what follows from them (proofs/). The code above shares these two records.
+#![tactic(auto)]
 
 // A setup: how many clients (C), servers (A), databases (D), and attempts for each client (N).
 #[repr(C)]
-#[derive(Drop)]
+#[derive(Clone, Copy)]
 pub struct Counts {
     pub clients: u16,
     pub servers: u16,
@@ -12,7 +13,7 @@ pub struct Counts {
 
 // An event record: six numbers.
 #[repr(C)]
-#[derive(Drop)]
+#[derive(Clone, Copy)]
 pub struct Event {
     pub kind: u16,
     pub client: u16,
@@ -23,7 +24,7 @@ pub struct Event {
 }
 
 // What the engine answers: accepted, or why an event or a setup was refused.
-#[derive(Drop)]
+#[derive(Clone, Copy)]
 pub enum Answer {
     Accepted,
     WrongSize,

@@ -1,4 +1,6 @@
 // Number 2: whether every cell of the table is in its range, by one loop over each kind of party and over the rows.
+#![tactic(auto)]
+
 ghost use Rattle.std.specs.Prelude.{◌≡◌, length};
 ghost use Rattle.lists.specs.Tests.{every, each};
 ghost use Rattle.protocol.specs.Agreement.{Id};

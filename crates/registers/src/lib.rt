@@ -1,9 +1,11 @@
 // The two write-once registers: claims, one cell that holds an owner, and decisions, two cells that hold an outcome and its value.
+#![tactic(auto)]
+
 ghost use Rattle.std.specs.Prelude.{◌≡◌, length};
 ghost use Rattle.registers.specs.Register.{held, outcome_of, value_of, offering, claiming};
 
 // What a register of decisions holds.
-#[derive(Drop)]
+#[derive(Clone, Copy)]
 pub enum Decision {
     None,
     Commit(u16),
@@ -11,14 +13,14 @@ pub enum Decision {
 }
 
 // The answer of an offer: the decision that the register now holds, and whether this call wrote it.
-#[derive(Drop)]
+#[derive(Clone, Copy)]
 pub enum Offered {
     Took(Decision),
     Held(Decision),
 }
 
 // The answer of a claim: the owner that the register now holds, and whether this call wrote it.
-#[derive(Drop)]
+#[derive(Clone, Copy)]
 pub enum Claimed {
     Took(u16),
     Held(u16),

@@ -1,4 +1,6 @@
 // The rules that ask and write the row of one result alone, over the row's part of the table, lent by itself.
+#![tactic(auto)]
+
 ghost use Rattle.std.specs.Prelude.{◌≡◌, false, not, ◌&&◌, [], ◌∷◌, ◌≤◌, length};
 ghost use Rattle.masks.specs.Mask.{all};
 ghost use Rattle.registers.specs.declared.Decision.TheVariants.{None, Abort};

@@ -1,4 +1,6 @@
 // The rules over the whole table: the kinds of a row, on the row lent by itself, and one function for each kind of the parties.
+#![tactic(auto)]
+
 ghost use Rattle.std.specs.Prelude.{◌≡◌, [], ◌∷◌, ◌≤◌, T, length};
 ghost use Rattle.lists.specs.Tests.{inside};
 ghost use Rattle.masks.specs.Mask.{all};

@@ -1,5 +1,7 @@
 // The jobs as C and Rust call them (include/vrolkant.h): set up, one event, and the list of events. The list job is written here, and not in `engine`,
 // because an archive exports the functions of its own crate alone, and a function that hands a list of records on would need a walk of its own.
+#![tactic(auto)]
+
 ghost use Rattle.std.specs.Prelude.{◌≡◌};
 ghost use Rattle.table.specs.Jobs.{set_up, applied, ran};
 ghost use Rattle.runner.specs.Asked.{length_for};

@@ -1,4 +1,6 @@
 // Decimal numbers as text, and back: what the lines of a listing are made of.
+#![tactic(auto)]
+
 ghost use Rattle.std.specs.Prelude.{◌≡◌, ◌&&◌, [], ◌∷◌, ◌++◌, ◌≤◌, leb, drop};
 ghost use Rattle.text.specs.Writing.{puts, digit_at, decimal};
 ghost use Rattle.text.specs.Reading.{most, is_digit, digits, ended_by, read_number};
