@@ -38,7 +38,7 @@ pub const DECIDED: usize = 11;
 pub const COMMITTED: usize = 12;
 
 // The fixed cells of a row, with what its register of decisions holds.
-#[derive(Drop)]
+#[derive(Clone, Copy)]
 pub struct Row {
     pub owner: u16,
     pub decision: Decision,

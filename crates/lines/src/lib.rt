@@ -17,14 +17,14 @@ const RESULT: u8 = 82;
 // ---- reading
 
 // The counts of a first line, and the place behind it.
-#[derive(Drop)]
+#[derive(Clone, Copy)]
 pub enum FirstLine {
     Found(Counts, usize),
     Malformed,
 }
 
 // The record of an event line, and the place behind it.
-#[derive(Drop)]
+#[derive(Clone, Copy)]
 pub enum EventLine {
     Found(Event, usize),
     Malformed,

@@ -133,7 +133,7 @@ fn result_lines(out: &mut [u8], start: usize, table: &[u16], counts: Counts) -> 
 // ---- the events
 
 // Where the listing ends after one event, and the event's number.
-#[derive(Drop)]
+#[derive(Clone, Copy)]
 struct Turn {
     at: usize,
     number: u16,

@@ -57,14 +57,14 @@ pub fn put_number(out: &mut [u8], at: usize, number: u16, end: u8) -> usize
 // ---- reading
 
 // A number that was read, and the place behind the byte that ended it.
-#[derive(Drop)]
+#[derive(Clone, Copy)]
 pub enum Number {
     Found(u16, usize),
     Malformed,
 }
 
 // The value of some digits, and the place behind them.
-#[derive(Drop)]
+#[derive(Clone, Copy)]
 struct Run {
     value: u32,
     next: usize,
