@@ -6,17 +6,15 @@ use Rattle.text.proofs.read_digits.Goals as goal
 
 pub returns-then-not-reads_on : goal.returns-then-not-reads_on
 returns-then-not-reads_on c =
-    let loop = c in
-    let input = loop.args.input.now in
-    sym (loop.loop-at.invariant.1 ∙ digits_end input _ _ (omega arith) (sym c.reads_on.ensures ∙ c.if-not-reads_on.true))
+    let input = c.args.input.now in
+    sym (c.loop-at.invariant.1 ∙ digits_end input _ _ (omega arith) (sym c.reads_on.ensures ∙ c.if-not-reads_on.true))
 
 pub loop-at-preserved : goal.loop-at-preserved
 loop-at-preserved c =
-    let loop = c in
-    let input = loop.args.input.now in
+    let input = c.args.input.now in
     let goes = sym c.reads_on.ensures ∙ c.if-not-reads_on.false in
-    let bounds = taken_bounds input loop.loop-at.value loop.loop-at.at goes in
-    (omega arith, loop.loop-at.invariant.1 ∙ digit_taken input _ _ (omega arith) goes)
+    let bounds = taken_bounds input c.loop-at.value c.loop-at.at goes in
+    (omega arith, c.loop-at.invariant.1 ∙ digit_taken input _ _ (omega arith) goes)
 
 pub returns : goal.returns
 returns c =
