@@ -1,15 +1,15 @@
 -- How the parts of the one-event job make up its meaning: the table's numbers, then the record's, then the rule's.
 use mathlib.Core.Path.{◌≡◌, refl, sym, ap, subst, ◌∙◌}
-use mathlib.Core.Bool.{Bool, true, false, cond, ◌&&◌, and-false}
+use mathlib.Core.Bool.{true, false, cond, ◌&&◌, and-false}
 use mathlib.Core.List.{List}
 use mathlib.Core.Option.{Option, none, some}
-use Prim.Native.Nat.{ℕ, zero, suc, ◌≤◌, ◌<◌}
+use Prim.Native.Nat.{ℕ, ◌≤◌, ◌<◌}
 use native.Mathlib.Omega.{arith}
 use borrow.Author.Tests.{eq-eqb, ne_eqb}
 use lib.Dec.{T, eqb, eqb→eq, not_T}
 use lib.ListN.{length}
 use Rattle.lists.specs.Tests.{every, inside}
-use Rattle.lists.proofs.Choice.{true_T, false_T, every_all, all_every, inside_low, inside_high}
+use Rattle.lists.proofs.Choice.{true_T, false_T, every_all, all_every, inside_high}
 use Rattle.protocol.specs.declared.Counts.{Counts}
 use Rattle.protocol.specs.declared.Event.{Event}
 use Rattle.protocol.specs.Events.{Kind, kind_of, record_of}
@@ -198,3 +198,8 @@ not_set_up t n f = rw f
 pub is_set_up : (t cells : List ℕ) (n : Counts) → every (size_tests n t) ≡ true → cells ≡ fresh_table n → ◌≡◌ {A = Done} (record { number = 0; cells = cells }) (set_up t n)
 unfolding set_up set_up_number
 is_set_up t cells n f e = rw f (ap (λ x. record { number = 0; cells = x }) e)
+
+-- ---- a kind behind the last
+
+pub above_kinds : (k : ℕ) → 19 ≤ k → kind_of k ≡ none
+above_kinds k above = kind_unknown k (not_T (inside 18 k) (λ t. omega (arith, inside_high 18 k t)))

@@ -1,0 +1,20 @@
+-- `engine::answer` meets its contract.
+use mathlib.Core.Path.{sym, ◌∙◌}
+use Rattle.engine.proofs.Laws.{wrong_field, party_down, ruled_so}
+use Rattle.engine.proofs.answer.Goals as goal
+
+pub returns-then-not-fields_fit : goal.returns-then-not-fields_fit
+returns-then-not-fields_fit c =
+    wrong_field c.args.counts c.args.table.now c.args.event (sym c.fields_fit.ensures ∙ c.if-not-fields_fit.true)
+
+pub returns-then-not-parties_up : goal.returns-then-not-parties_up
+returns-then-not-parties_up c =
+    party_down c.args.counts c.args.table.now c.args.event (sym c.fields_fit.ensures ∙ c.if-not-fields_fit.false)
+    (sym c.parties_up.ensures ∙ c.if-not-parties_up.true)
+
+pub returns : goal.returns
+returns c =
+    c.follow.ensures
+    ∙ ruled_so c.args.counts c.args.table.now c.args.event
+    (sym c.fields_fit.ensures ∙ c.if-not-fields_fit.false)
+    (sym c.parties_up.ensures ∙ c.if-not-parties_up.false)
