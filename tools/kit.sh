@@ -12,15 +12,14 @@ if [ -n "${RATTLE_HOME:-}" ]; then
     kit=$RATTLE_HOME
 elif command -v rt >/dev/null; then
     kit=$(rt doc) || exit 1
-    kit=${kit%/*/*}
+    kit=${kit%/*}
 elif [ -f "$last_kit" ]; then
     kit=$(<"$last_kit")
 else
     say "there is no rt on the path, and nothing is built here"
     exit 1
 fi
-kit_here=$kit/on/$(uname -m)
-kit_tools=$kit_here/toolchain
+kit_tools=$kit/toolchain
 kit_target=x86_64-unknown-linux-gnu
 
 # with_known CRATE: the crate and all that it knows, as crates.txt has them, one to a line
@@ -74,8 +73,8 @@ build_alone() {
     esac
 }
 
-# have_built CRATE FILE COMMAND...: has the command prove the crate and build the file, unless that is done; shows each crate that is proved, and
-# all that was said if it fails
+# have_built CRATE FILE COMMAND...: has the command prove the crate and build the file, unless that is done; names each crate that is being proved, and
+# shows all that was said if it fails
 have_built() {
     local crate=$1 file=$2 target=$repository/target
     shift 2
@@ -97,7 +96,7 @@ have_built() {
         sources=$(sources_of "$crate")
         cd "$repository" || exit
         "$@" </dev/null 2>&1 | tee "$target/built/$crate.said" | while IFS= read -r line; do
-            case $line in 'rt: '*' proved ('[0-9]*) printf '%s\n' "$line" >&2 2>/dev/null || true ;; esac
+            case $line in 'rt: chose --jobs '*' for '*) say "proving ${line##* }" ;; esac
         done || {
             cat "$target/built/$crate.said" >&2
             say "$crate is not proved and built"
@@ -112,17 +111,28 @@ have_built() {
 }
 
 # have_program CRATE: has its program in target/bin
-have_program() { have_built "$1" "$repository/target/bin/$1" check_program "$1"; }
+have_program() { have_built "$1" "$repository/target/bin/$1" build_program "$1"; }
 
-# rt goes by its stamp, also where the program is gone or is another one than was recorded; without the stamp it builds anew.
-check_program() {
-    if [ ! -f "target/bin/$1" ] || [ -f "target/built/$1" ]; then rm -f "target/stamp/$1"; fi
-    rt check "$1"
+# rt runs what it has built: on an empty input, of which the programs here make nothing.
+build_program() {
+    rm -f "crates/$1/out/$1"
+    (cd "crates/$1" && rt run) || return
+    keep "crates/$1/out/$1" "target/bin/$1"
 }
 
-# The archive of the proved library.
+# The archive of the proved library, under the name that C and Rust callers link.
 archive=$repository/target/staticlib/librunner.a
-have_archive() { have_built runner "$archive" rt staticlib runner; }
+have_archive() { have_built runner_c "$archive" build_archive; }
+
+build_archive() {
+    (cd crates/runner_c && rt lib) || return
+    keep crates/runner_c/out/librunner_c.a target/staticlib/librunner.a
+}
+
+# keep FILE PLACE: a copy of what was built, whole or not there at all
+keep() {
+    mkdir -p "$(dirname "$2")" && cp "$1" "$2.new" && mv "$2.new" "$2"
+}
 
 # compile FILE.c OBJECT [FLAG...]
 compile() {
@@ -137,7 +147,7 @@ compile() {
 link() {
     local out=$1 said
     shift
-    said=$("$kit_here/bin/rattle-link" --target $kit_target --toolchain "$kit_tools" -o "$out" "$@" 2>&1) || {
+    said=$("$kit/bin/rattle-link" --target $kit_target --toolchain "$kit_tools" -o "$out" "$@" 2>&1) || {
         printf '%s\n' "$said" >&2
         return 1
     }

@@ -1,21 +1,18 @@
 // Prints the listing of every stored input: data/001, data/002 and so on, each behind a line with its name.
 #![tactic(auto)]
 
-
 // Prints one stored input, and answers whether there is one of this number.
-fn print_case(number: u16) -> bool {
-    let descriptor = printing::open_stored(number);
-    if descriptor < 0 {
+fn print_case(rt: &HostRuntime, number: u16) -> bool {
+    let Some(mut file) = printing::open_stored(rt, number) else {
         return false;
-    }
-    printing::print_listing(descriptor, b"stored input");
-    libc::close(descriptor);
+    };
+    printing::print_listing(rt, &mut file, "stored input");
     true
 }
 
-fn main() {
+fn main(rt: HostRuntime) {
     let mut number: u16 = 1;
-    while number < 1000 && print_case(number) {
+    while number < 1000 && print_case(&rt, number) {
         number += 1;
     }
 }

@@ -5,10 +5,10 @@ ghost use Rattle.std.specs.Prelude.{◌≡◌, ◌≤◌, ◌<◌, length};
 ghost use Rattle.lent.specs.Count.{cell_count};
 
 use layout::HEADER;
-use libc::STDOUT_FILENO;
 use lines::EventLine;
 use printing::Got;
 use protocol::Event;
+use std::io::{self, Write};
 use text::{NEWLINE, Number, SPACE};
 
 // The letters of the lines with a number: of an event alone, and of the list.
@@ -22,7 +22,7 @@ const MOST_EVENTS: u16 = 999;
 // ---- the table's line
 
 // How many cells a table has, and the place behind its line.
-#[derive(Drop)]
+#[derive(Clone, Copy)]
 enum Cells {
     Found(usize, usize),
     Malformed,
@@ -102,50 +102,52 @@ fn put_cells(out: &mut [u8], start: usize, table: &[u16]) -> usize
 }
 
 // A line with two numbers, and the table.
-fn print_table(letter: u8, first: u16, second: u16, table: &[u16]) {
-    let mut out = io::large_buffer();
+fn print_table(rt: &HostRuntime, letter: u8, first: u16, second: u16, table: &[u16]) {
+    let mut out = [0; 65536];
     let behind_letter = text::put(&mut out, 0, letter);
     let start = text::put(&mut out, behind_letter, SPACE);
     let behind_line = lines::put_place(&mut out, start, first, second);
     let end = put_cells(&mut out, behind_line, table);
-    io::write_all(STDOUT_FILENO, &out[..end]);
+    let mut output = io::writer(rt);
+    // what cannot be written is missed in what the program prints
+    let _ = output.write_all(&out[..end]);
 }
 
 // ---- the events
 
 // One event, and the table that it leaves.
-fn print_step(table: &mut [u16], place: u16, event: Event) {
+fn print_step(rt: &HostRuntime, table: &mut [u16], place: u16, event: Event) {
     let number = engine::step(table, event);
-    print_table(EVENT, place, number, &table[..]);
+    print_table(rt, EVENT, place, number, &table[..]);
 }
 
 // One event on the table as lent, which is read anew for it.
-fn play_alone(input: &[u8], place: u16, event: Event) {
+fn play_alone(rt: &HostRuntime, input: &[u8], place: u16, event: Event) {
     let mut room = blank();
     if let Cells::Found(count, _) = read_cells(input, &mut room) {
-        print_step(&mut room[0..count], place, event);
+        print_step(rt, &mut room[0..count], place, event);
     }
 }
 
 // Each event by itself.
-fn play_each(input: &[u8], start: usize) {
+fn play_each(rt: &HostRuntime, input: &[u8], start: usize) {
     let mut place: u16 = 1;
     let mut next = start;
     while place <= MOST_EVENTS && next < input.len() {
         let EventLine::Found(event, behind) = lines::read_event(input, next) else {
             return;
         };
-        play_alone(input, place, event);
+        play_alone(rt, input, place, event);
         place += 1;
         next = behind;
     }
 }
 
 // All events in order from the table as lent, to the first refusal; where there are none, 1 and 2 are asked all the same.
-fn play_list(input: &[u8], start: usize, table: &mut [u16]) {
+fn play_list(rt: &HostRuntime, input: &[u8], start: usize, table: &mut [u16]) {
     let first = engine::check(&table[..]);
     if first != 0 {
-        print_table(LIST, 0, first, &table[..]);
+        print_table(rt, LIST, 0, first, &table[..]);
         return;
     }
     let mut accepted: u16 = 0;
@@ -156,41 +158,39 @@ fn play_list(input: &[u8], start: usize, table: &mut [u16]) {
         };
         let number = engine::step(table, event);
         if number != 0 {
-            print_table(LIST, accepted, number, &table[..]);
+            print_table(rt, LIST, accepted, number, &table[..]);
             return;
         }
         accepted += 1;
         next = behind;
     }
-    print_table(LIST, accepted, 0, &table[..]);
+    print_table(rt, LIST, accepted, 0, &table[..]);
 }
 
 // A stored table and its events.
-fn play(input: &[u8]) {
+fn play(rt: &HostRuntime, input: &[u8]) {
     let mut room = blank();
     if let Cells::Found(count, start) = read_cells(input, &mut room) {
-        play_each(input, start);
-        play_list(input, start, &mut room[0..count]);
+        play_each(rt, input, start);
+        play_list(rt, input, start, &mut room[0..count]);
     }
 }
 
 // Plays one stored table, and answers whether there is one of this number.
-fn play_stored(number: u16) -> bool {
-    let descriptor = printing::open_stored(number);
-    if descriptor < 0 {
+fn play_stored(rt: &HostRuntime, number: u16) -> bool {
+    let Some(mut file) = printing::open_stored(rt, number) else {
         return false;
+    };
+    let mut input = [0; 65536];
+    if let Got::Bytes(length) = printing::read_input(&mut file, &mut input) {
+        play(rt, &input[..length]);
     }
-    let mut input = io::large_buffer();
-    if let Got::Bytes(length) = printing::read_input(descriptor, &mut input) {
-        play(&input[..length]);
-    }
-    libc::close(descriptor);
     true
 }
 
-fn main() {
+fn main(rt: HostRuntime) {
     let mut number: u16 = 1;
-    while number < 1000 && play_stored(number) {
+    while number < 1000 && play_stored(&rt, number) {
         number += 1;
     }
 }

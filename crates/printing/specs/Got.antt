@@ -5,4 +5,4 @@ use Rattle.printing.specs.declared.Got.TheVariants.{Bytes, Nothing}
 
 abbrev pub got_bytes : Got → ℕ
 got_bytes (Bytes count) = count
-got_bytes Nothing = 0
+got_bytes (Nothing error) = 0

@@ -1,10 +1,12 @@
-// Reads an input from a descriptor, writes its listing to standard output, and opens the stored inputs of a program one by one.
+// Reads an input, writes its listing to standard output, and opens the stored inputs of a program one by one.
 #![tactic(auto)]
 
 ghost use Rattle.std.specs.Prelude.{◌≡◌, ◌≤◌, length};
 ghost use Rattle.printing.specs.Got.{got_bytes};
 
-use libc::STDOUT_FILENO;
+use std::fs::File;
+use std::io::{self, Read, Write};
+use std::rt::Files;
 
 // Room for the longest input and one byte more, by which one that is too long is told.
 fn blank() -> [u8; 65537]
@@ -13,41 +15,48 @@ fn blank() -> [u8; 65537]
     [0; 65537]
 }
 
-// Writes the listing of what was read; 65,536 bytes are room for every listing (`listing-fits` of the crate `listing`).
-fn write_listing(input: &[u8]) {
-    let mut out = io::large_buffer();
+// Says on standard error what failed, as its caller names it, and why.
+pub fn fail<R: Eprint>(rt: &R, name: &str, error: io::Error) {
+    // where standard error cannot be written there is nobody to tell
+    let _ = eprintln!(rt; "{name}: {error}");
+}
+
+// Writes the listing of what was read; 65,536 bytes are room for every listing (`listing_fits` of the crate `listing`).
+fn write_listing<R: Print + Eprint>(rt: &R, input: &[u8]) {
+    let mut out = [0; 65536];
     let end = listing::list(input, &mut out);
-    if !io::write_all(STDOUT_FILENO, &out[..end]) {
-        os::fail(b"write");
+    let mut output = io::writer(rt);
+    if let Err(error) = output.write_all(&out[..end]) {
+        fail(rt, "write", error);
     }
 }
 
-// How many bytes were read, or that a read failed.
+// How many bytes were read, or why a read failed.
 #[derive(Drop)]
 pub enum Got {
     Bytes(usize),
-    Nothing,
+    Nothing(io::Error),
 }
 
 // One read into the room.
-fn read_some(descriptor: i32, room: &mut [u8]) -> Got
+fn read_some<F: Read>(input: &mut F, room: &mut [u8]) -> Got
     ensures { got_bytes result ≤ length room.old }
 {
-    let got = libc::read(descriptor, room);
-    if got < 0 {
-        return Got::Nothing;
+    match input.read(room) {
+        Ok(count) => Got::Bytes(count),
+        Err(error) => Got::Nothing(error),
     }
-    Got::Bytes(io::count(got, room))
 }
 
 // Reads to the end of the input or of the room.
-pub fn read_input(descriptor: i32, room: &mut [u8]) -> Got
+pub fn read_input<F: Read>(input: &mut F, room: &mut [u8]) -> Got
     ensures { got_bytes result ≤ length room.old }
 {
     let mut filled = 0;
     while filled < room.len() {
-        let Got::Bytes(more) = read_some(descriptor, &mut room[filled..]) else {
-            return Got::Nothing;
+        let more = match read_some(input, &mut room[filled..]) {
+            Got::Bytes(more) => more,
+            Got::Nothing(error) => return Got::Nothing(error),
         };
         if more == 0 {
             return Got::Bytes(filled);
@@ -57,14 +66,13 @@ pub fn read_input(descriptor: i32, room: &mut [u8]) -> Got
     Got::Bytes(filled)
 }
 
-// Prints the listing of what the descriptor holds, or says why it cannot be read; `name` is what the message calls it.
-pub fn print_listing(descriptor: i32, name: &[u8]) {
-    let mut input = blank();
-    let Got::Bytes(length) = read_input(descriptor, &mut input) else {
-        os::fail(name);
-        return;
-    };
-    write_listing(&input[..length]);
+// Prints the listing of an input, or says why it cannot be read; `name` is what the message calls it.
+pub fn print_listing<R: Print + Eprint, F: Read>(rt: &R, input: &mut F, name: &str) {
+    let mut room = blank();
+    match read_input(input, &mut room) {
+        Got::Bytes(length) => write_listing(rt, &room[..length]),
+        Got::Nothing(error) => fail(rt, name, error),
+    }
 }
 
 // The digit of a number at a place.
@@ -74,14 +82,12 @@ fn digit(number: u16, place: u16) -> u8
     48 + (number / place % 10) as u8
 }
 
-// Opens the stored input of a number, in the file that three digits name, and prints a line with the name; below 0 where there is none.
-pub fn open_stored(number: u16) -> i32 {
-    let name = [digit(number, 100), digit(number, 10), digit(number, 1)];
-    let descriptor = os::open_read(&name);
-    if 0 <= descriptor {
-        io::write_all(STDOUT_FILENO, b"= ");
-        io::write_all(STDOUT_FILENO, &name);
-        io::write_all(STDOUT_FILENO, b"\n");
-    }
-    descriptor
+// Opens the stored input of a number, in the file that three digits name, and prints a line with the name; nothing where there is none.
+pub fn open_stored<R: Files + Print>(rt: &R, number: u16) -> Option<R::File> {
+    let digits = [digit(number, 100), digit(number, 10), digit(number, 1)];
+    let name = str::from_utf8(&digits).ok()?;
+    let file = File::open(rt, name).ok()?;
+    // a line that cannot be written is missed in what the program prints
+    let _ = println!(rt; "= {name}");
+    Some(file)
 }

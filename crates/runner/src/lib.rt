@@ -1,5 +1,4 @@
-// The jobs as C and Rust call them (include/vrolkant.h): set up, one event, and the list of events. The list job is written here, and not in `engine`,
-// because an archive exports the functions of its own crate alone, and a function that hands a list of records on would need a walk of its own.
+// The jobs over plain numbers, as C calls them (include/vrolkant.h): set up, one event, and the list of events. `runner_c` exports them.
 #![tactic(auto)]
 
 ghost use Rattle.std.specs.Prelude.{◌≡◌};
@@ -9,13 +8,7 @@ ghost use Rattle.runner.specs.Asked.{length_for};
 use protocol::{Counts, Event};
 
 // How many cells the table of a setup has, or 0 where a count is outside its range.
-#[unsafe(no_mangle)]
-pub extern "C" fn vrolkant_table_length(
-    clients: u16,
-    servers: u16,
-    databases: u16,
-    attempts: u16,
-) -> usize
+pub fn vrolkant_table_length(clients: u16, servers: u16, databases: u16, attempts: u16) -> usize
     ensures { result ≡ length_for (record { clients = clients; servers = servers; databases = databases; attempts = attempts }) }
 {
     let counts = Counts {
@@ -31,8 +24,7 @@ pub extern "C" fn vrolkant_table_length(
 }
 
 // Sets up a fresh table.
-#[unsafe(no_mangle)]
-pub extern "C" fn vrolkant_set_up(
+pub fn vrolkant_set_up(
     table: &mut [u16],
     clients: u16,
     servers: u16,
@@ -51,8 +43,7 @@ pub extern "C" fn vrolkant_set_up(
 }
 
 // Applies one event.
-#[unsafe(no_mangle)]
-pub extern "C" fn vrolkant_apply(
+pub fn vrolkant_apply(
     table: &mut [u16],
     kind: u16,
     client: u16,
@@ -76,15 +67,14 @@ pub extern "C" fn vrolkant_apply(
 
 // How many events were accepted, and the number of the refusal that ended the list, or 0.
 #[repr(C)]
-#[derive(Drop)]
+#[derive(Clone, Copy)]
 pub struct Ran {
     pub accepted: usize,
     pub refusal: u16,
 }
 
 // Applies the events one after another; the one refused, and a table refused before them all, leave every cell as it was.
-#[unsafe(no_mangle)]
-pub extern "C" fn vrolkant_run(table: &mut [u16], events: &[Event]) -> Ran
+pub fn vrolkant_run(table: &mut [u16], events: &[Event]) -> Ran
     ensures { (result.accepted ≡ (ran table.old events.now).accepted) × (result.refusal ≡ (ran table.old events.now).refusal) × (table.new ≡ (ran table.old events.now).cells) }
 {
     // once, because an accepted event leaves a sound table sound; an empty list is asked too
