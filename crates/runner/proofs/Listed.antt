@@ -1,6 +1,7 @@
 -- The list job's invariant, with no word of the machine: i records of rs are accepted, ts are the cells after them, a sound table, and what is left to say of the rest of the list is what is said of the whole.
 --     Facts            the invariant.        Said      what is said at the end: the three fields of `ran`
 --     starts, goes_on, stops, ended      it holds at the start; an accepted record keeps it; a refused one, and the end of the list, give the answers
+--     accepts, refuses     the same of a step's answer.        checked     what the check before the loop says
 -- Assumes nothing.
 use mathlib.Core.Path.{◌≡◌, refl, sym, ◌∙◌, ap, subst}
 use Prim.Native.Nat.{ℕ, suc, ◌+◌, ◌<◌, ◌≤◌, zero-le}
@@ -70,3 +71,20 @@ module _ (ys : List ℕ) (rs : List Record) where
     goes_on f accepted long =
         let left = subst (Left i) (next ∙ from_accepted ts r (drop (suc i) rs) accepted) f.2 in
         subst (λ (j : ℕ). Facts j (applied ts r).cells) (sym (add-one i)) (less, long ∙ f.1, (suc-add i _ ∙ sym (add-suc i _) ∙ left.0, left.1, left.2), sound_left ts r accepted)
+
+  -- the same, of what a step on the list's next record answers and leaves
+  module _ (i : ℕ) (ts : List ℕ) (d : Record) (less : i < length rs) (number : ℕ) (cells : List ℕ)
+    (does : (number ≡ (applied ts (get_or rs i d)).number) × (cells ≡ (applied ts (get_or rs i d)).cells)) where
+    pub refuses : T (sound ys) → Facts i ts → (number ≡ 0 → ⊥) → Said i number cells
+    refuses is_sound f refused =
+        let said = stops i ts d less is_sound f (λ zero. refused (does.0 ∙ zero)) in
+        (said.0, does.0 ∙ said.1, does.1 ∙ said.2)
+
+    pub accepts : Facts i ts → number ≡ 0 → length cells ≡ length ts → Facts (i + 1) cells
+    accepts f accepted long =
+        subst (λ l. Facts (i + 1) l) (sym does.1)
+        (goes_on i ts d less f (sym does.0 ∙ accepted) (ap length (sym does.1) ∙ long))
+
+-- a table of which 1 and 2 are asked, with the answer 0
+pub checked : (t : List ℕ) (number : ℕ) → number ≡ table_number t → number ≡ 0 → T (sound t)
+checked t number is zero = (sound_when t).0 (sym is ∙ zero)
