@@ -74,7 +74,7 @@ module _ (ys : List ℕ) (rs : List Record) where
 
   -- the same, of what a step on the list's next record answers and leaves
   module _ (i : ℕ) (ts : List ℕ) (d : Record) (less : i < length rs) (number : ℕ) (cells : List ℕ)
-    (does : (number ≡ (applied ts (get_or rs i d)).number) × (cells ≡ (applied ts (get_or rs i d)).cells)) where
+      (does : (number ≡ (applied ts (get_or rs i d)).number) × (cells ≡ (applied ts (get_or rs i d)).cells)) where
     pub refuses : T (sound ys) → Facts i ts → (number ≡ 0 → ⊥) → Said i number cells
     refuses is_sound f refused =
         let said = stops i ts d less is_sound f (λ zero. refused (does.0 ∙ zero)) in

@@ -16,17 +16,17 @@ pub returns-in_default : goal.returns-in_default
 returns-in_default c =
     let input = c.args.input.now in
     let said = printed input _ _ _ _
-        (no_counts input c.if-input-gt-LONGEST.false (malformed_counts input _ c.read_counts.ensures c.in_default.is))
-        c.refuse-in_default.ensures in
+    (no_counts input c.if-input-gt-LONGEST.false (malformed_counts input _ c.read_counts.ensures c.in_default.is))
+    c.refuse-in_default.ensures in
     record { value = said.0; out_after = said.1 }
 
 pub returns-then-not-counts_fit : goal.returns-then-not-counts_fit
 returns-then-not-counts_fit c =
     let input = c.args.input.now in
     let said = printed input _ _ _ _
-        (counts_refused input c.if-input-gt-LONGEST.false _ _ (found_counts input _ c.read_counts.ensures _ c.in-Found.behind c.in-Found.is)
-        (sym c.counts_fit.ensures ∙ c.if-not-counts_fit.true))
-        c.refuse-then-not-counts_fit.ensures in
+    (counts_refused input c.if-input-gt-LONGEST.false _ _ (found_counts input _ c.read_counts.ensures _ c.in-Found.behind c.in-Found.is)
+    (sym c.counts_fit.ensures ∙ c.if-not-counts_fit.true))
+    c.refuse-then-not-counts_fit.ensures in
     record { value = said.0; out_after = said.1 }
 
 pub slice_bounds-cells-end : goal.slice_bounds-cells-end
@@ -42,7 +42,7 @@ pub returns : goal.returns
 returns c =
     let input = c.args.input.now in
     let said = printed input _ _ _ _
-        (counts_listed input c.if-input-gt-LONGEST.false _ _ (found_counts input _ c.read_counts.ensures _ c.in-Found.behind c.in-Found.is)
-        (sym c.counts_fit.ensures ∙ c.if-not-counts_fit.false))
-        c.list_on.ensures in
+    (counts_listed input c.if-input-gt-LONGEST.false _ _ (found_counts input _ c.read_counts.ensures _ c.in-Found.behind c.in-Found.is)
+    (sym c.counts_fit.ensures ∙ c.if-not-counts_fit.false))
+    c.list_on.ensures in
     record { value = said.0; out_after = said.1 }
