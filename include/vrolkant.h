@@ -1,5 +1,5 @@
-/* The engine's jobs, as librunner.a exports them (`rt staticlib runner`, x86-64 Linux).
-   Each function is proved to meet its contract in crates/runner/src/lib.rt for every table, length, count and event, refused ones too. What it is lent is
+/* The engine's jobs, as librunner.a exports them (README.md says how it is made; x86-64 Linux).
+   Each function is proved to meet its contract in crates/runner_c/src/lib.rt for every table, length, count and event, refused ones too. What it is lent is
    the caller's to see to, because no contract can say it:
    - `table` points to `length` cells that may be written, `events` to `count` records, both aligned as C aligns them;
    - `events` does not overlap `table`, and no one else touches either during the call;
