@@ -32,7 +32,7 @@ with_known() {
             count = split(knows[name], known, " ")
             for (i = 1; i <= count; i++) visit(known[i])
         }
-        { sub(/#.*/, ""); split($0, sides, ":"); gsub(/[ \t]/, "", sides[1]); knows[sides[1]] = sides[2] }
+        { sub(/#.*/, ""); split($0, sides, ":"); split(sides[1], words, " "); knows[words[1]] = sides[2] }
         END { visit(crate) }' "$repository/crates.txt"
 }
 

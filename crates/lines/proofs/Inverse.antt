@@ -101,8 +101,8 @@ event_written text e rest read =
     spaced (e, rest) client-on _ read (λ client attempt-on client-fits client-text read.
     spaced (e, rest) attempt-on _ read (λ attempt server-on attempt-fits attempt-text read.
     spaced (e, rest) server-on _ read (λ server database-on server-fits server-text read.
-    spaced (e, rest) database-on _ read (λ database Value-on database-fits database-text read.
-    ended (e, rest) Value-on _ read (λ value behind value-fits value-text read.
+    spaced (e, rest) database-on _ read (λ database value-on database-fits database-text read.
+    ended (e, rest) value-on _ read (λ value behind value-fits value-text read.
     subst (λ (found : Event × List ℕ). EventFits found.0 × (text ≡ event_text found.0 ++ found.1))
     (some-injective _ _ read) (
       record {

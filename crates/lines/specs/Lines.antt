@@ -29,8 +29,8 @@ read_event text =
     and_then (read_number space client-on) (λ client attempt-on.
     and_then (read_number space attempt-on) (λ attempt server-on.
     and_then (read_number space server-on) (λ server database-on.
-    and_then (read_number space database-on) (λ database Value-on.
-    and_then (read_number newline Value-on) (λ value behind.
+    and_then (read_number space database-on) (λ database value-on.
+    and_then (read_number newline value-on) (λ value behind.
     some (record { kind = kind; client = client; attempt = attempt; server = server; database = database; value = value }, behind)))))))
 
 -- ---- writing

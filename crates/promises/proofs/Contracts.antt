@@ -21,14 +21,14 @@ use Rattle.listing.proofs.list.Statement as list
 use Rattle.listing.proofs.list.Met as list-met
 
 module _ {M : Type 1} where
-  -- crates/engine/src/lib.rt, over `setUp` and `applied` of table's specs/Jobs
+  -- crates/engine/src/lib.rt, over `set_up` and `applied` of table's specs/Jobs
   pub set_up_meets : set-up.statement M
   set_up_meets = set-up-met.met
 
   pub apply_meets : apply.statement M
   apply_meets = apply_met.met
 
-  -- the same with numbers for answers, and 1 and 2 asked of a table alone: over `answerNumber`, `tableNumber` and `applied`
+  -- the same with numbers for answers, and 1 and 2 asked of a table alone: over `answer_number`, `table_number` and `applied`
   pub number_meets : number.statement M
   number_meets = number-met.met
 
@@ -38,7 +38,7 @@ module _ {M : Type 1} where
   pub step_meets : step.statement M
   step_meets = step-met.met
 
-  -- crates/runner/src/lib.rt, the jobs as C and Rust call them: over `lengthFor` of runner's specs/Asked, `setUp`, `applied`, and for the list job `ran`
+  -- crates/runner/src/lib.rt, the jobs as C and Rust call them: over `length_for` of runner's specs/Asked, `set_up`, `applied`, and for the list job `ran`
   pub vrolkant_table_length_meets : vrolkant-table-length.statement M
   vrolkant_table_length_meets = vrolkant-table-length-met.met
 
