@@ -6,7 +6,7 @@ use mathlib.Core.Option.{Option, none, some}
 use Prim.Native.Nat.{ℕ, ◌≤◌, ◌<◌}
 use native.Mathlib.Omega.{arith}
 use borrow.Author.Tests.{eq-eqb, ne_eqb}
-use lib.Dec.{T, eqb, eqb→eq, not_T}
+use lib.Dec.{T, eqb, eqb→eq}
 use lib.ListN.{length}
 use Rattle.lists.specs.Tests.{every, inside}
 use Rattle.lists.proofs.Choice.{true_T, false_T, every_all, all_every, inside_high}
@@ -15,7 +15,7 @@ use Rattle.protocol.specs.declared.Event.{Event}
 use Rattle.protocol.specs.Events.{Kind, kind_of, record_of}
 use Rattle.protocol.specs.Numbers.{count_tests, in_range, field_tests, fields, acting, are_up, refusal, refusal_at, record_refusal}
 use Rattle.protocol.specs.Rules.{rule}
-use Rattle.protocol.proofs.Records.{kind_unknown, event_record}
+use Rattle.protocol.proofs.Records.{event_record}
 use Rattle.table.specs.Layout.{table_length}
 use Rattle.table.specs.Table.{counts_of, view, size_tests, sound, fresh_table, set_all}
 use Rattle.table.specs.Jobs.{Done, set_up_number, set_up, table_number, number_of, writes_at, after, applied}
@@ -198,8 +198,3 @@ not_set_up t n f = rw f
 pub is_set_up : (t cells : List ℕ) (n : Counts) → every (size_tests n t) ≡ true → cells ≡ fresh_table n → ◌≡◌ {A = Done} (record { number = 0; cells = cells }) (set_up t n)
 unfolding set_up set_up_number
 is_set_up t cells n f e = rw f (ap (λ x. record { number = 0; cells = x }) e)
-
--- ---- a kind behind the last
-
-pub above_kinds : (k : ℕ) → 19 ≤ k → kind_of k ≡ none
-above_kinds k above = kind_unknown k (not_T (inside 18 k) (λ t. omega (arith, inside_high 18 k t)))

@@ -19,7 +19,7 @@ use protocol::{Answer, Counts, Event};
 // Whether a client is up.
 fn client_up(table: &[u16], counts: Counts, client: u16) -> bool
     requires held { Held counts table.now }
-    requires t { T (inside counts.clients client) }
+    requires client_there { T (inside counts.clients client) }
     ensures { result ≡ eqb (view counts table.now (client_up client)) 1 }
 {
     let at = layout::client_at(counts, client);
@@ -29,7 +29,7 @@ fn client_up(table: &[u16], counts: Counts, client: u16) -> bool
 // Whether a server is up.
 fn server_up(table: &[u16], counts: Counts, server: u16) -> bool
     requires held { Held counts table.now }
-    requires t { T (inside counts.servers server) }
+    requires server_there { T (inside counts.servers server) }
     ensures { result ≡ eqb (view counts table.now (server_up server)) 1 }
 {
     let at = layout::server_at(server);
@@ -39,7 +39,7 @@ fn server_up(table: &[u16], counts: Counts, server: u16) -> bool
 // Whether a database is up.
 fn database_up(table: &[u16], counts: Counts, database: u16) -> bool
     requires held { Held counts table.now }
-    requires t { T (inside counts.databases database) }
+    requires database_there { T (inside counts.databases database) }
     ensures { result ≡ eqb (view counts table.now (database_up database)) 1 }
 {
     let at = layout::database_at(counts, database);
@@ -50,7 +50,7 @@ fn database_up(table: &[u16], counts: Counts, database: u16) -> bool
 // none in 18 and in an unknown kind.
 fn parties_up(table: &[u16], counts: Counts, event: Event) -> bool
     requires held { Held counts table.now }
-    requires event_value { every (fields counts event) ≡ true }
+    requires fields_fit { every (fields counts event) ≡ true }
     ensures { result ≡ parties_up counts table.now event }
 {
     let kind = event.kind;
@@ -82,7 +82,7 @@ fn parties_up(table: &[u16], counts: Counts, event: Event) -> bool
 // The decision over the 18 kinds. An unknown kind comes this far, because no field and no party is asked of it before.
 fn follow(table: &mut [u16], counts: Counts, event: Event) -> Answer
     requires held { Held counts table.old }
-    requires event_value { every (fields counts event) ≡ true }
+    requires fields_fit { every (fields counts event) ≡ true }
     ensures { record { number = answer_number result; cells = table.new } ≡ followed counts table.old event }
 {
     let kind = event.kind;

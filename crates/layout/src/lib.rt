@@ -141,8 +141,8 @@ pub fn rows_start(counts: Counts) -> usize
 // Where the row of a result starts.
 pub fn row_start(counts: Counts, client: u16, attempt: u16) -> usize
     requires ranged { Ranged counts }
-    requires le_client { (1 ≤ client) × (client ≤ counts.clients) }
-    requires le_attempt { (1 ≤ attempt) × (attempt ≤ counts.attempts) }
+    requires client_there { (1 ≤ client) × (client ≤ counts.clients) }
+    requires attempt_there { (1 ≤ attempt) × (attempt ≤ counts.attempts) }
     ensures { result ≡ row_start counts client attempt }
 {
     let before = (client as usize - 1) * (counts.attempts as usize) + (attempt as usize - 1);

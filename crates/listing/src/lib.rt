@@ -29,8 +29,8 @@ const MALFORMED: u16 = 8;
 // ---- the lines of clients and results, as in `lines` at a place of the lent room
 
 fn client_line(out: &mut [u8], at: usize, table: &[u16], counts: Counts, client: u16) -> usize
-    requires table_len { length table.now ≡ table_length counts }
-    requires id { Id counts.clients client }
+    requires whole_table { length table.now ≡ table_length counts }
+    requires client_there { Id counts.clients client }
     ensures { record { cells = out.new; at = result } ≡ puts (record { cells = out.old; at = at }) (client_line (view counts table.now) client) }
 {
     let first_cell = layout::client_at(counts, client);
@@ -45,7 +45,7 @@ fn client_line(out: &mut [u8], at: usize, table: &[u16], counts: Counts, client:
 }
 
 fn client_lines(out: &mut [u8], start: usize, table: &[u16], counts: Counts) -> usize
-    requires table_len { length table.now ≡ table_length counts }
+    requires whole_table { length table.now ≡ table_length counts }
     requires ranged { Ranged counts }
     ensures { record { cells = out.new; at = result } ≡ puts (record { cells = out.old; at = start }) (for_each counts.clients (client_line (view counts table.now))) }
 {
@@ -89,10 +89,10 @@ fn result_line(
     client: u16,
     attempt: u16,
 ) -> usize
-    requires table_len { length table.now ≡ table_length counts }
+    requires whole_table { length table.now ≡ table_length counts }
     requires ranged { Ranged counts }
-    requires id { Id counts.clients client }
-    requires id_2 { Id counts.attempts attempt }
+    requires client_there { Id counts.clients client }
+    requires attempt_there { Id counts.attempts attempt }
     ensures { record { cells = out.new; at = result } ≡ puts (record { cells = out.old; at = at }) (result_line client attempt (row_of (view counts table.now) client attempt)) }
 {
     let start = layout::row_start(counts, client, attempt);
@@ -102,9 +102,9 @@ fn result_line(
 
 // Those of one client.
 fn attempt_lines(out: &mut [u8], start: usize, table: &[u16], counts: Counts, client: u16) -> usize
-    requires table_len { length table.now ≡ table_length counts }
+    requires whole_table { length table.now ≡ table_length counts }
     requires ranged { Ranged counts }
-    requires id { Id counts.clients client }
+    requires client_there { Id counts.clients client }
     ensures { record { cells = out.new; at = result } ≡ puts (record { cells = out.old; at = start }) (for_each counts.attempts (λ k. result_line client k (row_of (view counts table.now) client k))) }
 {
     let mut at = start;
@@ -117,7 +117,7 @@ fn attempt_lines(out: &mut [u8], start: usize, table: &[u16], counts: Counts, cl
 }
 
 fn result_lines(out: &mut [u8], start: usize, table: &[u16], counts: Counts) -> usize
-    requires table_len { length table.now ≡ table_length counts }
+    requires whole_table { length table.now ≡ table_length counts }
     requires ranged { Ranged counts }
     ensures { record { cells = out.new; at = result } ≡ puts (record { cells = out.old; at = start }) (for_each counts.clients (λ c. for_each counts.attempts (λ k. result_line c k (row_of (view counts table.now) c k)))) }
 {
@@ -142,8 +142,8 @@ struct Turn {
 // One event and its line.
 fn play_event(out: &mut [u8], at: usize, table: &mut [u16], place: u16, event: Event) -> Turn
     requires { T (sound table.old) }
-    ensures at_after { record { cells = out.new; at = result.at } ≡ puts (record { cells = out.old; at = at }) (line (place ∷ (applied table.old event).number ∷ [])) }
-    ensures number_value { result.number ≡ (applied table.old event).number }
+    ensures text_after { record { cells = out.new; at = result.at } ≡ puts (record { cells = out.old; at = at }) (line (place ∷ (applied table.old event).number ∷ [])) }
+    ensures number_given { result.number ≡ (applied table.old event).number }
     ensures table_after { table.new ≡ (applied table.old event).cells }
 {
     let number = engine::step_sound(table, event);
@@ -156,9 +156,9 @@ fn play_event(out: &mut [u8], at: usize, table: &mut [u16], place: u16, event: E
 
 // The events of the lines from a place on, to the first refusal.
 fn play(out: &mut [u8], table: &mut [u16], input: &[u8], start: usize) -> usize
-    requires t { T (sound table.old) }
-    requires input_len_bound { length input.now ≤ longest }
-    ensures result_after { record { cells = out.new; at = result } ≡ puts (record { cells = out.old; at = 0 }) (played 1 table.old (script (drop start input.now))).text }
+    requires is_sound { T (sound table.old) }
+    requires not_too_long { length input.now ≤ longest }
+    ensures text_after { record { cells = out.new; at = result } ≡ puts (record { cells = out.old; at = 0 }) (played 1 table.old (script (drop start input.now))).text }
     ensures table_after { table.new ≡ (played 1 table.old (script (drop start input.now))).cells }
 {
     let mut at = 0;
@@ -197,9 +197,9 @@ fn refuse(out: &mut [u8], number: u16) -> usize
 
 // The events and the ending, on a table of the setup's length.
 fn list_on(out: &mut [u8], table: &mut [u16], counts: Counts, input: &[u8], start: usize) -> usize
-    requires table_len { length table.old ≡ table_length counts }
+    requires whole_table { length table.old ≡ table_length counts }
     requires ranged { Ranged counts }
-    requires input_len_bound { length input.now ≤ longest }
+    requires not_too_long { length input.now ≤ longest }
     ensures { record { cells = out.new; at = result } ≡ puts (record { cells = out.old; at = 0 }) (listed counts (played 1 (fresh_table counts) (script (drop start input.now)))) }
 {
     // the length and the counts are right, so the answer is known
@@ -211,7 +211,7 @@ fn list_on(out: &mut [u8], table: &mut [u16], counts: Counts, input: &[u8], star
 
 // Writes the listing of an input to the start of the lent room, as much as it has room for, and answers how many bytes that is.
 pub fn list(input: &[u8], out: &mut [u8]) -> usize
-    ensures value { result ≡ min (length (listing input.now)) (length out.old) }
+    ensures how_many { result ≡ min (length (listing input.now)) (length out.old) }
     ensures out_after { out.new ≡ over out.old (listing input.now) }
 {
     if LONGEST < input.len() {

@@ -50,6 +50,9 @@ kind_unknown (suc i) t = line_out kinds i (omega (arith, low))
     low : i < 18 → ⊥
     low h = T_not (inside 18 (suc i)) t (in_inside 18 (suc i) (omega arith) (omega arith))
 
+pub above_kinds : (k : ℕ) → 18 < k → kind_of k ≡ none
+above_kinds k above = kind_unknown k (not_T (inside 18 k) (λ t. omega (arith, inside_high 18 k t)))
+
 -- a kind that is none of the first `last`, as a decision tells it behind its arms, and not 0
 abbrev pub NoneOf : ℕ → ℕ → Type 0
 NoneOf zero k = Unit {0}
@@ -60,7 +63,7 @@ past zero k low other = low
 past (suc last) k low other = omega (arith, past last k low other.0, other.1)
 
 pub no_line : (k : ℕ) → NoneOf 18 k × (k ≡ 0 → ⊥) → kind_of k ≡ none
-no_line k other = kind_unknown k (not_T (inside 18 k) (λ t. omega (arith, past 18 k (inside_low 18 k t) other.0, inside_high 18 k t)))
+no_line k other = above_kinds k (past 18 k (omega (arith, other.1)) other.0)
 
 -- ---- a record is that of its event
 

@@ -22,9 +22,9 @@ use protocol::Counts;
 
 // Whether the cells of a server are in range.
 fn server_fits(table: &[u16], counts: Counts, server: u16) -> bool
-    requires table_len { length table.now ≡ table_length counts }
+    requires whole_table { length table.now ≡ table_length counts }
     requires ranged { Ranged counts }
-    requires id { Id counts.servers server }
+    requires server_there { Id counts.servers server }
     ensures { result ≡ every (server_tests counts (view counts table.now) server) }
 {
     let up = layout::server_at(server);
@@ -36,7 +36,7 @@ fn server_fits(table: &[u16], counts: Counts, server: u16) -> bool
 
 // Whether those of all servers are.
 fn servers_fit(table: &[u16], counts: Counts) -> bool
-    requires table_len { length table.now ≡ table_length counts }
+    requires whole_table { length table.now ≡ table_length counts }
     requires ranged { Ranged counts }
     ensures { result ≡ each counts.servers (λ i. every (server_tests counts (view counts table.now) i)) }
 {
@@ -52,8 +52,8 @@ fn servers_fit(table: &[u16], counts: Counts) -> bool
 
 // Whether the cells of a database are in range.
 fn database_fits(table: &[u16], counts: Counts, database: u16) -> bool
-    requires table_len { length table.now ≡ table_length counts }
-    requires id { Id counts.databases database }
+    requires whole_table { length table.now ≡ table_length counts }
+    requires database_there { Id counts.databases database }
     ensures { result ≡ every (database_tests counts (view counts table.now) database) }
 {
     let up = layout::database_at(counts, database);
@@ -65,7 +65,7 @@ fn database_fits(table: &[u16], counts: Counts, database: u16) -> bool
 
 // Whether those of all databases are.
 fn databases_fit(table: &[u16], counts: Counts) -> bool
-    requires table_len { length table.now ≡ table_length counts }
+    requires whole_table { length table.now ≡ table_length counts }
     requires ranged { Ranged counts }
     ensures { result ≡ each counts.databases (λ d. every (database_tests counts (view counts table.now) d)) }
 {
@@ -81,8 +81,8 @@ fn databases_fit(table: &[u16], counts: Counts) -> bool
 
 // Whether the cells of a client are in range, its attempt 0 exactly when its phase is 0.
 fn client_fits(table: &[u16], counts: Counts, client: u16) -> bool
-    requires table_len { length table.now ≡ table_length counts }
-    requires id { Id counts.clients client }
+    requires whole_table { length table.now ≡ table_length counts }
+    requires client_there { Id counts.clients client }
     ensures { result ≡ every (client_tests counts (view counts table.now) client) }
 {
     let up = layout::client_at(counts, client);
@@ -102,7 +102,7 @@ fn client_fits(table: &[u16], counts: Counts, client: u16) -> bool
 
 // Whether those of all clients are.
 fn clients_fit(table: &[u16], counts: Counts) -> bool
-    requires table_len { length table.now ≡ table_length counts }
+    requires whole_table { length table.now ≡ table_length counts }
     requires ranged { Ranged counts }
     ensures { result ≡ each counts.clients (λ c. every (client_tests counts (view counts table.now) c)) }
 {
@@ -134,7 +134,7 @@ fn numbers_fit(row: &[u16], counts: Counts) -> bool
 
 // Whether the masks of servers are: what stands in any of them is in range exactly if each of them is.
 fn server_masks_fit(row: &[u16], counts: Counts) -> bool
-    requires row_len { length row.now ≡ row_length counts }
+    requires whole_row { length row.now ≡ row_length counts }
     requires ranged { Ranged counts }
     ensures { result ≡ every (server_mask_tests counts (row_view counts row.now)) }
 {
@@ -143,7 +143,7 @@ fn server_masks_fit(row: &[u16], counts: Counts) -> bool
 
 // Whether the masks of databases are, by what stands in any of them: the fixed ones, then the acknowledgements up to the row's end.
 fn database_masks_fit(row: &[u16], counts: Counts) -> bool
-    requires row_len { length row.now ≡ row_length counts }
+    requires whole_row { length row.now ≡ row_length counts }
     requires ranged { Ranged counts }
     ensures { result ≡ every (database_mask_tests counts (row_view counts row.now)) }
 {
@@ -163,7 +163,7 @@ fn database_masks_fit(row: &[u16], counts: Counts) -> bool
 
 // Whether all cells of the row are in range; value and computed may hold any number.
 fn row_fits(row: &[u16], counts: Counts) -> bool
-    requires row_len { length row.now ≡ row_length counts }
+    requires whole_row { length row.now ≡ row_length counts }
     requires ranged { Ranged counts }
     ensures { result ≡ every (row_tests counts (row_view counts row.now)) }
 {
@@ -178,7 +178,7 @@ fn row_fits(row: &[u16], counts: Counts) -> bool
 
 // Whether those of all rows are. They lie one behind the other up to the table's end, so each starts where the one before it ends.
 fn rows_fit(table: &[u16], counts: Counts) -> bool
-    requires table_len { length table.now ≡ table_length counts }
+    requires whole_table { length table.now ≡ table_length counts }
     requires ranged { Ranged counts }
     ensures { result ≡ each counts.clients (λ c. each counts.attempts (λ k. every (row_tests counts (row_of (view counts table.now) c k)))) }
 {
@@ -198,7 +198,7 @@ fn rows_fit(table: &[u16], counts: Counts) -> bool
 
 // Whether every cell of a table with these counts is in range.
 pub fn in_range(table: &[u16], counts: Counts) -> bool
-    requires table_len { length table.now ≡ table_length counts }
+    requires whole_table { length table.now ≡ table_length counts }
     requires ranged { Ranged counts }
     ensures { result ≡ in_range counts (view counts table.now) }
 {

@@ -64,8 +64,8 @@ fn says(yes: bool, decided: bool) -> bool
 
 // A database that has not voted votes.
 fn cast(row: &mut [u16], database: u16, yes: bool)
-    requires in_bounds { 13 ≤ length row.old }
-    requires le_database { (1 ≤ database) × (database ≤ 16) }
+    requires fixed_cells { 13 ≤ length row.old }
+    requires database_in_mask { (1 ≤ database) × (database ≤ 16) }
     ensures { (n : Setup) → row.new ≡ set_fields n row.old (votes database yes (row_view n row.old)) }
 {
     if !masks::has(row[VOTED], database) {
@@ -78,8 +78,8 @@ fn cast(row: &mut [u16], database: u16, yes: bool)
 
 // The owner, if it listens, hears a database, as yes or not.
 fn hear(row: &mut [u16], listening: bool, database: u16, yes: bool)
-    requires in_bounds { 13 ≤ length row.old }
-    requires le_database { (1 ≤ database) × (database ≤ 16) }
+    requires fixed_cells { 13 ≤ length row.old }
+    requires database_in_mask { (1 ≤ database) × (database ≤ 16) }
     ensures { (n : Setup) → row.new ≡ set_fields n row.old (hears listening database yes (row_view n row.old)) }
 {
     if listening {
@@ -99,9 +99,9 @@ fn offer(row: &mut [u16], decision: Decision) -> Offered
 
 // The server terminates the result with a decision in hand.
 fn terminate(row: &mut [u16], server: u16, decision: Decision)
-    requires in_bounds { 13 ≤ length row.old }
-    requires le_server { (1 ≤ server) × (server ≤ 16) }
-    requires fact { decision ≡ None → ⊥ }
+    requires fixed_cells { 13 ≤ length row.old }
+    requires server_in_mask { (1 ≤ server) × (server ≤ 16) }
+    requires in_hand { decision ≡ None → ⊥ }
     ensures { (n : Setup) → row.new ≡ set_fields n row.old (terminates server (row_view n row.old)) }
 {
     match decision {
@@ -117,9 +117,9 @@ fn terminate(row: &mut [u16], server: u16, decision: Decision)
 
 // The owner offers its verdict, and goes on with what the register then holds, its own or what was held.
 fn settle(row: &mut [u16], server: u16, decision: Decision)
-    requires in_bounds { 13 ≤ length row.old }
-    requires le_server { (1 ≤ server) × (server ≤ 16) }
-    requires fact { decision ≡ None → ⊥ }
+    requires fixed_cells { 13 ≤ length row.old }
+    requires server_in_mask { (1 ≤ server) × (server ≤ 16) }
+    requires in_hand { decision ≡ None → ⊥ }
     ensures { (n : Setup) → row.new ≡ set_fields n row.old (offers decision (row_view n row.old) ((written, 1) ∷ terminates server (row_view n row.old))) }
 {
     let offered = offer(row, decision);
@@ -132,8 +132,8 @@ fn settle(row: &mut [u16], server: u16, decision: Decision)
 
 // A cleaner offers abort, and goes on with what the register then holds: it may hold commit already.
 fn sweep(row: &mut [u16], server: u16)
-    requires in_bounds { 13 ≤ length row.old }
-    requires le_server { (1 ≤ server) × (server ≤ 16) }
+    requires fixed_cells { 13 ≤ length row.old }
+    requires server_in_mask { (1 ≤ server) × (server ≤ 16) }
     ensures { (n : Setup) → row.new ≡ set_fields n row.old (offers Abort (row_view n row.old) (terminates server (row_view n row.old))) }
 {
     let offered = offer(row, Decision::Abort);
@@ -145,8 +145,8 @@ fn sweep(row: &mut [u16], server: u16)
 
 // An undecided database decides by the outcome.
 fn obey(row: &mut [u16], database: u16)
-    requires in_bounds { 13 ≤ length row.old }
-    requires le_database { (1 ≤ database) × (database ≤ 16) }
+    requires fixed_cells { 13 ≤ length row.old }
+    requires database_in_mask { (1 ≤ database) × (database ≤ 16) }
     ensures { (n : Setup) → row.new ≡ set_fields n row.old (obeys database (row_view n row.old)) }
 {
     if !masks::has(row[DECIDED], database) {
@@ -159,8 +159,8 @@ fn obey(row: &mut [u16], database: u16)
 // The acknowledgement to the sender is sent.
 fn acknowledge(row: &mut [u16], counts: Counts, server: u16, database: u16)
     requires lent { Lent counts row.old }
-    requires le_server { (1 ≤ server) × (server ≤ counts.servers) }
-    requires le_database { (1 ≤ database) × (database ≤ counts.databases) }
+    requires server_there { (1 ≤ server) × (server ≤ counts.servers) }
+    requires database_there { (1 ≤ database) × (database ≤ counts.databases) }
     ensures { row.new ≡ set_fields counts row.old (acknowledges server database (row_view counts row.old)) }
 {
     let sent = acked_at(server);
@@ -172,7 +172,7 @@ fn acknowledge(row: &mut [u16], counts: Counts, server: u16, database: u16)
 // 3. A request arrives.
 pub fn request(row: &mut [u16], counts: Counts, server: u16) -> Answer
     requires lent { Lent counts row.old }
-    requires le_server { (1 ≤ server) × (server ≤ counts.servers) }
+    requires server_there { (1 ≤ server) × (server ≤ counts.servers) }
     ensures { record { number = answer_number result; cells = row.new } ≡ stepped counts row.old (request_rule server (row_view counts row.old)) }
 {
     let answer = gates::request(gates::load(&row[..]), server);
@@ -197,7 +197,7 @@ pub fn compute(row: &mut [u16], counts: Counts, server: u16, value: u16) -> Answ
 // 5. A prepare arrives.
 pub fn prepare(row: &mut [u16], counts: Counts, database: u16, value: u16) -> Answer
     requires lent { Lent counts row.old }
-    requires le_database { (1 ≤ database) × (database ≤ counts.databases) }
+    requires database_there { (1 ≤ database) × (database ≤ counts.databases) }
     ensures { record { number = answer_number result; cells = row.new } ≡ stepped counts row.old (prepare_rule database value (row_view counts row.old)) }
 {
     let answer = gates::prepare(gates::load(&row[..]), database, value);
@@ -210,7 +210,7 @@ pub fn prepare(row: &mut [u16], counts: Counts, database: u16, value: u16) -> An
 // 6. A vote arrives.
 pub fn vote(row: &mut [u16], counts: Counts, server: u16, database: u16) -> Answer
     requires lent { Lent counts row.old }
-    requires le_database { (1 ≤ database) × (database ≤ counts.databases) }
+    requires database_there { (1 ≤ database) × (database ≤ counts.databases) }
     ensures { record { number = answer_number result; cells = row.new } ≡ stepped counts row.old (vote_rule server database (row_view counts row.old)) }
 {
     let cells = gates::load(&row[..]);
@@ -230,7 +230,7 @@ pub fn vote(row: &mut [u16], counts: Counts, server: u16, database: u16) -> Answ
 // 7. A ready arrives.
 pub fn hear_ready(row: &mut [u16], counts: Counts, server: u16, database: u16, ready: u16) -> Answer
     requires lent { Lent counts row.old }
-    requires le_database { (1 ≤ database) × (database ≤ counts.databases) }
+    requires database_there { (1 ≤ database) × (database ≤ counts.databases) }
     ensures { record { number = answer_number result; cells = row.new } ≡ stepped counts row.old (ready_rule server database ready (row_view counts row.old)) }
 {
     let cells = gates::load(&row[..]);
@@ -245,7 +245,7 @@ pub fn hear_ready(row: &mut [u16], counts: Counts, server: u16, database: u16, r
 // 8. The owner writes its verdict.
 pub fn write(row: &mut [u16], counts: Counts, server: u16) -> Answer
     requires lent { Lent counts row.old }
-    requires le_server { (1 ≤ server) × (server ≤ counts.servers) }
+    requires server_there { (1 ≤ server) × (server ≤ counts.servers) }
     ensures { record { number = answer_number result; cells = row.new } ≡ stepped counts row.old (write_rule counts.databases server (row_view counts row.old)) }
 {
     let cells = gates::load(&row[..]);
@@ -259,8 +259,8 @@ pub fn write(row: &mut [u16], counts: Counts, server: u16) -> Answer
 // 11. Another server cleans.
 pub fn clean(row: &mut [u16], counts: Counts, server: u16, suspected: u16) -> Answer
     requires lent { Lent counts row.old }
-    requires le_server { (1 ≤ server) × (server ≤ counts.servers) }
-    requires owner_bound { row_view counts row.old owner ≤ 16 }
+    requires server_there { (1 ≤ server) × (server ≤ counts.servers) }
+    requires owner_in_mask { row_view counts row.old owner ≤ 16 }
     ensures { record { number = answer_number result; cells = row.new } ≡ stepped counts row.old (clean_rule server suspected (row_view counts row.old)) }
 {
     let answer = gates::clean(gates::load(&row[..]), server, suspected);
@@ -273,8 +273,8 @@ pub fn clean(row: &mut [u16], counts: Counts, server: u16, suspected: u16) -> An
 // 12. A decision arrives.
 pub fn decide(row: &mut [u16], counts: Counts, server: u16, database: u16) -> Answer
     requires lent { Lent counts row.old }
-    requires le_server { (1 ≤ server) × (server ≤ counts.servers) }
-    requires le_database { (1 ≤ database) × (database ≤ counts.databases) }
+    requires server_there { (1 ≤ server) × (server ≤ counts.servers) }
+    requires database_there { (1 ≤ database) × (database ≤ counts.databases) }
     ensures { record { number = answer_number result; cells = row.new } ≡ stepped counts row.old (decide_rule server database (row_view counts row.old)) }
 {
     let answer = gates::decide(gates::load(&row[..]), server, database);
@@ -288,8 +288,8 @@ pub fn decide(row: &mut [u16], counts: Counts, server: u16, database: u16) -> An
 // 13. An acknowledgement arrives.
 pub fn ack(row: &mut [u16], counts: Counts, server: u16, database: u16) -> Answer
     requires lent { Lent counts row.old }
-    requires le_server { (1 ≤ server) × (server ≤ counts.servers) }
-    requires le_database { (1 ≤ database) × (database ≤ counts.databases) }
+    requires server_there { (1 ≤ server) × (server ≤ counts.servers) }
+    requires database_there { (1 ≤ database) × (database ≤ counts.databases) }
     ensures { record { number = answer_number result; cells = row.new } ≡ stepped counts row.old (ack_rule server database (row_view counts row.old)) }
 {
     let sent = acked_at(server);
@@ -304,7 +304,7 @@ pub fn ack(row: &mut [u16], counts: Counts, server: u16, database: u16) -> Answe
 // 14, what it asks of the row: sent if outcome is not 0 and the sender knows all D acknowledgements.
 pub fn result(row: &[u16], counts: Counts, server: u16) -> Answer
     requires lent { Lent counts row.now }
-    requires le_server { (1 ≤ server) × (server ≤ counts.servers) }
+    requires server_there { (1 ≤ server) × (server ≤ counts.servers) }
     ensures { answer_number result ≡ result_given counts server (row_view counts row.now) }
 {
     let decision = registers::read(row[OUTCOME], row[VALUE]);

@@ -22,7 +22,7 @@ use registers::Decision;
 fn follow_row(row: &mut [u16], counts: Counts, event: Event, ready: u16, suspected: u16) -> Answer
     requires lent { Lent counts row.old }
     requires follows { Follows counts event }
-    requires owner_bound { row_view counts row.old owner ≤ 16 }
+    requires owner_in_mask { row_view counts row.old owner ≤ 16 }
     ensures { record { number = answer_number result; cells = row.new } ≡ stepped counts row.old (row_rule counts event ready suspected (row_view counts row.old)) }
 {
     let kind = event.kind;
@@ -102,7 +102,7 @@ fn call_all(table: &mut [u16], counts: Counts, client: u16, attempt: u16)
 // 1. A client issues its request.
 pub fn issue(table: &mut [u16], counts: Counts, client: u16, value: u16) -> Answer
     requires held { Held counts table.old }
-    requires t { T (inside counts.clients client) }
+    requires client_there { T (inside counts.clients client) }
     ensures { record { number = answer_number result; cells = table.new } ≡ ruled counts table.old (issue_rule (view counts table.old) client value) }
 {
     let at = layout::client_at(counts, client);
@@ -119,7 +119,7 @@ pub fn issue(table: &mut [u16], counts: Counts, client: u16, value: u16) -> Answ
 // 2. A client's timeout.
 pub fn timeout(table: &mut [u16], counts: Counts, client: u16) -> Answer
     requires held { Held counts table.old }
-    requires t { T (inside counts.clients client) }
+    requires client_there { T (inside counts.clients client) }
     ensures { record { number = answer_number result; cells = table.new } ≡ ruled counts table.old (timeout_rule counts (view counts table.old) client) }
 {
     let at = layout::client_at(counts, client);
@@ -134,7 +134,7 @@ pub fn timeout(table: &mut [u16], counts: Counts, client: u16) -> Answer
 // 9. A server suspects another.
 pub fn suspect(table: &mut [u16], counts: Counts, server: u16, other: u16) -> Answer
     requires held { Held counts table.old }
-    requires t { T (inside counts.servers server) × T (inside counts.servers other) }
+    requires servers_there { T (inside counts.servers server) × T (inside counts.servers other) }
     ensures { record { number = answer_number result; cells = table.new } ≡ ruled counts table.old (suspect_rule (view counts table.old) server other) }
 {
     if server == other {
@@ -148,7 +148,7 @@ pub fn suspect(table: &mut [u16], counts: Counts, server: u16, other: u16) -> An
 // 10. A server trusts another again.
 pub fn trust(table: &mut [u16], counts: Counts, server: u16, other: u16) -> Answer
     requires held { Held counts table.old }
-    requires t { T (inside counts.servers server) × T (inside counts.servers other) }
+    requires servers_there { T (inside counts.servers server) × T (inside counts.servers other) }
     ensures { record { number = answer_number result; cells = table.new } ≡ ruled counts table.old (trust_rule (view counts table.old) server other) }
 {
     if server == other {
@@ -162,7 +162,7 @@ pub fn trust(table: &mut [u16], counts: Counts, server: u16, other: u16) -> Answ
 // 15. A server crashes.
 pub fn crash_server(table: &mut [u16], counts: Counts, server: u16) -> Answer
     requires held { Held counts table.old }
-    requires t { T (inside counts.servers server) }
+    requires server_there { T (inside counts.servers server) }
     ensures { record { number = answer_number result; cells = table.new } ≡ ruled counts table.old (server_crash_rule server) }
 {
     let at = layout::server_at(server);
@@ -173,7 +173,7 @@ pub fn crash_server(table: &mut [u16], counts: Counts, server: u16) -> Answer
 // 16. A database crashes.
 pub fn crash_database(table: &mut [u16], counts: Counts, database: u16) -> Answer
     requires held { Held counts table.old }
-    requires t { T (inside counts.databases database) }
+    requires database_there { T (inside counts.databases database) }
     ensures { record { number = answer_number result; cells = table.new } ≡ ruled counts table.old (database_crash_rule database) }
 {
     let at = layout::database_at(counts, database);
@@ -184,7 +184,7 @@ pub fn crash_database(table: &mut [u16], counts: Counts, database: u16) -> Answe
 // 17. A client crashes.
 pub fn crash_client(table: &mut [u16], counts: Counts, client: u16) -> Answer
     requires held { Held counts table.old }
-    requires t { T (inside counts.clients client) }
+    requires client_there { T (inside counts.clients client) }
     ensures { record { number = answer_number result; cells = table.new } ≡ ruled counts table.old (client_crash_rule client) }
 {
     let at = layout::client_at(counts, client);
@@ -195,7 +195,7 @@ pub fn crash_client(table: &mut [u16], counts: Counts, client: u16) -> Answer
 // 18. A database recovers.
 pub fn recover(table: &mut [u16], counts: Counts, database: u16) -> Answer
     requires held { Held counts table.old }
-    requires t { T (inside counts.databases database) }
+    requires database_there { T (inside counts.databases database) }
     ensures { record { number = answer_number result; cells = table.new } ≡ ruled counts table.old (recover_rule (view counts table.old) database) }
 {
     let at = layout::database_at(counts, database);
@@ -210,7 +210,7 @@ pub fn recover(table: &mut [u16], counts: Counts, database: u16) -> Answer
 // A commit reaches its client: phase 2, and the value is delivered.
 fn deliver(table: &mut [u16], counts: Counts, client: u16, value: u16)
     requires held { Held counts table.old }
-    requires t { T (inside counts.clients client) }
+    requires client_there { T (inside counts.clients client) }
     ensures { table.new ≡ set_all counts table.old ((phase client, 2) ∷ (delivered client, value) ∷ []) }
 {
     let at = layout::client_at(counts, client);
@@ -221,7 +221,7 @@ fn deliver(table: &mut [u16], counts: Counts, client: u16, value: u16)
 // An abort reaches its client: the next attempt, its request sent to server 1, or phase 3 if the attempt was the last.
 fn advance(table: &mut [u16], counts: Counts, client: u16, attempt: u16)
     requires held { Held counts table.old }
-    requires t { T (inside counts.clients client) × T (inside counts.attempts attempt) }
+    requires result_there { T (inside counts.clients client) × T (inside counts.attempts attempt) }
     ensures { table.new ≡ set_all counts table.old (aborted counts (view counts table.old) client attempt) }
 {
     let at = layout::client_at(counts, client);
@@ -236,7 +236,7 @@ fn advance(table: &mut [u16], counts: Counts, client: u16, attempt: u16)
 // A result reaches its client, which takes it if it waits on that attempt.
 fn conclude(table: &mut [u16], counts: Counts, client: u16, attempt: u16)
     requires held { Held counts table.old }
-    requires t { T (inside counts.clients client) × T (inside counts.attempts attempt) }
+    requires result_there { T (inside counts.clients client) × T (inside counts.attempts attempt) }
     ensures { table.new ≡ set_all counts table.old (concluded counts (view counts table.old) client attempt) }
 {
     let at = layout::client_at(counts, client);
@@ -260,8 +260,8 @@ fn conclude(table: &mut [u16], counts: Counts, client: u16, attempt: u16)
 // 14. A result arrives.
 pub fn result(table: &mut [u16], counts: Counts, client: u16, attempt: u16, server: u16) -> Answer
     requires held { Held counts table.old }
-    requires t { T (inside counts.clients client) × T (inside counts.attempts attempt) }
-    requires t_2 { T (inside counts.servers server) }
+    requires result_there { T (inside counts.clients client) × T (inside counts.attempts attempt) }
+    requires server_there { T (inside counts.servers server) }
     ensures { record { number = answer_number result; cells = table.new } ≡ ruled counts table.old (result_rule counts (view counts table.old) client attempt server) }
 {
     let start = layout::row_start(counts, client, attempt);

@@ -7,13 +7,13 @@ use Rattle.rules.proofs.Laws.{database_room, cell_at}
 use Rattle.engine.proofs.database_up.Goals as goal
 
 pub offset_bounds-table-at : goal.offset_bounds-table-at
-offset_bounds-table-at c = omega (arith, database_room c.args.counts c.args.table.now c.requires.held.long c.requires.held.ranged c.args.database c.requires.t, c.database_at-at.ensures)
+offset_bounds-table-at c = omega (arith, database_room c.args.counts c.args.table.now c.requires.held.long c.requires.held.ranged c.args.database c.requires.database_there, c.database_at-at.ensures)
 
 pub bounds-table-at : goal.bounds-table-at
-bounds-table-at c = omega (arith, database_room c.args.counts c.args.table.now c.requires.held.long c.requires.held.ranged c.args.database c.requires.t, c.database_at-at.ensures)
+bounds-table-at c = omega (arith, database_room c.args.counts c.args.table.now c.requires.held.long c.requires.held.ranged c.args.database c.requires.database_there, c.database_at-at.ensures)
 
 pub returns : goal.returns
 returns c =
     let n = c.args.counts in
     let t = c.args.table.now in
-    ap (λ x. eqb x 1) (cell_at n t (database_up c.args.database) _ c.requires.t c.database_at-at.ensures)
+    ap (λ x. eqb x 1) (cell_at n t (database_up c.args.database) _ c.requires.database_there c.database_at-at.ensures)

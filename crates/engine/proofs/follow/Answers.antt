@@ -1,8 +1,8 @@
 -- `engine::follow` meets its contract.
-use Rattle.engine.proofs.Laws.{above_kinds}
 use Rattle.engine.specs.Engine.{followed}
 use native.Mathlib.Omega.{arith}
 use mathlib.Core.Path.{◌≡◌}
+use Rattle.protocol.proofs.Records.{above_kinds}
 use Rattle.engine.proofs.follow.Goals as goal
 
 pub returns-in-1 : goal.returns-in-1

@@ -4,7 +4,7 @@ use mathlib.Core.Bool.{and-true}
 use Rattle.engine.specs.Engine.{parties_up}
 use native.Mathlib.Omega.{arith}
 use mathlib.Core.Path.{◌≡◌}
-use Rattle.engine.proofs.Laws.{above_kinds}
+use Rattle.protocol.proofs.Records.{above_kinds}
 use Rattle.engine.proofs.parties_up.Goals as goal
 
 pub returns-in-1 : goal.returns-in-1

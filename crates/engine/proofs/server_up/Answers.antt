@@ -7,13 +7,13 @@ use Rattle.rules.proofs.Laws.{server_room, cell_at}
 use Rattle.engine.proofs.server_up.Goals as goal
 
 pub offset_bounds-table-at : goal.offset_bounds-table-at
-offset_bounds-table-at c = omega (arith, server_room c.args.counts c.args.table.now c.requires.held.long c.requires.held.ranged c.args.server c.requires.t, c.server_at-at.ensures c.args.counts)
+offset_bounds-table-at c = omega (arith, server_room c.args.counts c.args.table.now c.requires.held.long c.requires.held.ranged c.args.server c.requires.server_there, c.server_at-at.ensures c.args.counts)
 
 pub bounds-table-at : goal.bounds-table-at
-bounds-table-at c = omega (arith, server_room c.args.counts c.args.table.now c.requires.held.long c.requires.held.ranged c.args.server c.requires.t, c.server_at-at.ensures c.args.counts)
+bounds-table-at c = omega (arith, server_room c.args.counts c.args.table.now c.requires.held.long c.requires.held.ranged c.args.server c.requires.server_there, c.server_at-at.ensures c.args.counts)
 
 pub returns : goal.returns
 returns c =
     let n = c.args.counts in
     let t = c.args.table.now in
-    ap (λ x. eqb x 1) (cell_at n t (server_up c.args.server) _ c.requires.t (c.server_at-at.ensures c.args.counts))
+    ap (λ x. eqb x 1) (cell_at n t (server_up c.args.server) _ c.requires.server_there (c.server_at-at.ensures c.args.counts))

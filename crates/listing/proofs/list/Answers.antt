@@ -10,7 +10,7 @@ use Rattle.listing.proofs.list.Goals as goal
 pub returns-then-input-gt-LONGEST : goal.returns-then-input-gt-LONGEST
 returns-then-input-gt-LONGEST c =
     let said = printed c.args.input.now _ _ _ _ (too_long _ c.if-input-gt-LONGEST.true) c.refuse.ensures in
-    record { value = said.0; out_after = said.1 }
+    record { how_many = said.0; out_after = said.1 }
 
 pub returns-in_default : goal.returns-in_default
 returns-in_default c =
@@ -18,7 +18,7 @@ returns-in_default c =
     let said = printed input _ _ _ _
     (no_counts input c.if-input-gt-LONGEST.false (malformed_counts input _ c.read_counts.ensures c.in_default.is))
     c.refuse-in_default.ensures in
-    record { value = said.0; out_after = said.1 }
+    record { how_many = said.0; out_after = said.1 }
 
 pub returns-then-not-counts_fit : goal.returns-then-not-counts_fit
 returns-then-not-counts_fit c =
@@ -27,7 +27,7 @@ returns-then-not-counts_fit c =
     (counts_refused input c.if-input-gt-LONGEST.false _ _ (found_counts input _ c.read_counts.ensures _ c.in-Found.behind c.in-Found.is)
     (sym c.counts_fit.ensures ∙ c.if-not-counts_fit.true))
     c.refuse-then-not-counts_fit.ensures in
-    record { value = said.0; out_after = said.1 }
+    record { how_many = said.0; out_after = said.1 }
 
 pub slice_bounds-cells-end : goal.slice_bounds-cells-end
 slice_bounds-cells-end c =
@@ -45,4 +45,4 @@ returns c =
     (counts_listed input c.if-input-gt-LONGEST.false _ _ (found_counts input _ c.read_counts.ensures _ c.in-Found.behind c.in-Found.is)
     (sym c.counts_fit.ensures ∙ c.if-not-counts_fit.false))
     c.list_on.ensures in
-    record { value = said.0; out_after = said.1 }
+    record { how_many = said.0; out_after = said.1 }

@@ -10,35 +10,35 @@ pub overflow_add-end : goal.overflow_add-end
 overflow_add-end c =
     omega (
       arith,
-      row_inside c.args.counts _ _ c.requires.id.0 c.requires.id.1 c.requires.id_2.0 c.requires.id_2.1,
+      row_inside c.args.counts _ _ c.requires.client_there.0 c.requires.client_there.1 c.requires.attempt_there.0 c.requires.attempt_there.1,
       c.row_start-start.ensures,
       c.row_length.ensures,
-      c.requires.table_len,
+      c.requires.whole_table,
     )
 
 pub offset_bounds-table-start : goal.offset_bounds-table-start
 offset_bounds-table-start c =
     omega (
       arith,
-      row_inside c.args.counts _ _ c.requires.id.0 c.requires.id.1 c.requires.id_2.0 c.requires.id_2.1,
+      row_inside c.args.counts _ _ c.requires.client_there.0 c.requires.client_there.1 c.requires.attempt_there.0 c.requires.attempt_there.1,
       c.row_start-start.ensures,
       c.row_length.ensures,
-      c.requires.table_len,
+      c.requires.whole_table,
     )
 
 pub slice_bounds-row_line-end : goal.slice_bounds-row_line-end
 slice_bounds-row_line-end c =
     omega (
       arith,
-      row_inside c.args.counts _ _ c.requires.id.0 c.requires.id.1 c.requires.id_2.0 c.requires.id_2.1,
+      row_inside c.args.counts _ _ c.requires.client_there.0 c.requires.client_there.1 c.requires.attempt_there.0 c.requires.attempt_there.1,
       c.row_start-start.ensures,
       c.row_length.ensures,
-      c.requires.table_len,
+      c.requires.whole_table,
     )
 
 pub returns : goal.returns
 returns c =
     c.row_line.ensures c.args.counts
     ∙ ap (puts (record { cells = c.args.out.now; at = c.args.at }))
-    (lent_line c.args.counts c.args.table.now _ _ c.requires.table_len c.requires.id c.requires.id_2
+    (lent_line c.args.counts c.args.table.now _ _ c.requires.whole_table c.requires.client_there c.requires.attempt_there
     _ _ c.row_start-start.ensures c.row_length.ensures)

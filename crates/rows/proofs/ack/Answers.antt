@@ -17,14 +17,14 @@ pub returns-then-not-has : goal.returns-then-not-has
 returns-then-not-has c =
     let n = c.args.counts in
     let l = c.args.row.now in
-    let there = in_inside n.servers c.args.server c.requires.le_server.0 c.requires.le_server.1 in
+    let there = in_inside n.servers c.args.server c.requires.server_there.0 c.requires.server_there.1 in
     rw (ap (λ x. has x c.args.database) (sym (read_at n l (acked c.args.server) _ there (c.acked_at-sent.ensures n))) ∙ sym c.has.ensures ∙ c.if-not-has.true)
 
 pub returns : goal.returns
 returns c =
     let n = c.args.counts in
     let l = c.args.row.now in
-    let there = in_inside n.servers c.args.server c.requires.le_server.0 c.requires.le_server.1 in
+    let there = in_inside n.servers c.args.server c.requires.server_there.0 c.requires.server_there.1 in
     rw (
       ap (λ x. has x c.args.database) (sym (read_at n l (acked c.args.server) _ there (c.acked_at-sent.ensures n))) ∙ sym c.has.ensures ∙ c.if-not-has.false,
       sym (marked_at n l (known c.args.server) c.args.database _ _ there c.known_at-known.ensures c.with.ensures),

@@ -20,5 +20,5 @@ bounds-row-sent-2 c = omega (arith, c.acked_at-sent.ensures c.args.counts, c.req
 pub returns : goal.returns
 returns c =
     let n = c.args.counts in
-    marked_at n c.args.row.now (acked c.args.server) c.args.database _ _ (in_inside n.servers c.args.server c.requires.le_server.0 c.requires.le_server.1)
+    marked_at n c.args.row.now (acked c.args.server) c.args.database _ _ (in_inside n.servers c.args.server c.requires.server_there.0 c.requires.server_there.1)
     (c.acked_at-sent.ensures n) c.with.ensures

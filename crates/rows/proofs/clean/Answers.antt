@@ -5,7 +5,7 @@ use Rattle.protocol.specs.Rules.{clean_rule}
 use Rattle.rows.proofs.clean.Goals as goal
 
 pub clean-answer-requires : goal.clean-answer-requires
-clean-answer-requires c = rw (c.load.ensures c.args.counts) c.requires.owner_bound
+clean-answer-requires c = rw (c.load.ensures c.args.counts) c.requires.owner_in_mask
 
 pub returns-then-is_accepted : goal.returns-then-is_accepted
 returns-then-is_accepted c =

@@ -22,7 +22,7 @@ follow_row-requires c =
     record {
       lent = record { long = lent_long n t c.args.event.client c.args.event.attempt c.requires.held.long c.requires.follows.client c.requires.follows.attempt c.row_start-start.result _ c.row_start-start.ensures (add-sub_cancel_left c.row_start-start.result c.row_length.result ∙ c.row_length.ensures); servers = c.requires.held.ranged.servers8; databases = c.requires.held.ranged.databases8 };
       follows = c.requires.follows;
-      owner_bound = lent_owner n t c.args.event.client c.args.event.attempt c.requires.held.long c.requires.follows.client c.requires.follows.attempt c.row_start-start.result _ c.row_start-start.ensures (add-sub_cancel_left c.row_start-start.result c.row_length.result ∙ c.row_length.ensures) c.requires.held.range c.requires.held.ranged.servers8;
+      owner_in_mask = lent_owner n t c.args.event.client c.args.event.attempt c.requires.held.long c.requires.follows.client c.requires.follows.attempt c.row_start-start.result _ c.row_start-start.ensures (add-sub_cancel_left c.row_start-start.result c.row_length.result ∙ c.row_length.ensures) c.requires.held.range c.requires.held.ranged.servers8;
     }
 
 pub returns : goal.returns

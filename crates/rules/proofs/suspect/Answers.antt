@@ -13,19 +13,19 @@ use Rattle.rules.proofs.Laws.{server_room, followed_by, cell_at}
 use Rattle.rules.proofs.suspect.Goals as goal
 
 pub overflow_add-at : goal.overflow_add-at
-overflow_add-at c = omega (arith, server_room c.args.counts c.args.table.now c.requires.held.long c.requires.held.ranged c.args.server c.requires.t.0, c.server_at-at.ensures c.args.counts)
+overflow_add-at c = omega (arith, server_room c.args.counts c.args.table.now c.requires.held.long c.requires.held.ranged c.args.server c.requires.servers_there.0, c.server_at-at.ensures c.args.counts)
 
 pub offset_bounds-table-at : goal.offset_bounds-table-at
-offset_bounds-table-at c = omega (arith, server_room c.args.counts c.args.table.now c.requires.held.long c.requires.held.ranged c.args.server c.requires.t.0, c.server_at-at.ensures c.args.counts)
+offset_bounds-table-at c = omega (arith, server_room c.args.counts c.args.table.now c.requires.held.long c.requires.held.ranged c.args.server c.requires.servers_there.0, c.server_at-at.ensures c.args.counts)
 
 pub bounds-table-at : goal.bounds-table-at
-bounds-table-at c = omega (arith, server_room c.args.counts c.args.table.now c.requires.held.long c.requires.held.ranged c.args.server c.requires.t.0, c.server_at-at.ensures c.args.counts)
+bounds-table-at c = omega (arith, server_room c.args.counts c.args.table.now c.requires.held.long c.requires.held.ranged c.args.server c.requires.servers_there.0, c.server_at-at.ensures c.args.counts)
 
 pub offset_bounds-table-at-2 : goal.offset_bounds-table-at-2
-offset_bounds-table-at-2 c = omega (arith, server_room c.args.counts c.args.table.now c.requires.held.long c.requires.held.ranged c.args.server c.requires.t.0, c.server_at-at.ensures c.args.counts)
+offset_bounds-table-at-2 c = omega (arith, server_room c.args.counts c.args.table.now c.requires.held.long c.requires.held.ranged c.args.server c.requires.servers_there.0, c.server_at-at.ensures c.args.counts)
 
 pub bounds-table-at-2 : goal.bounds-table-at-2
-bounds-table-at-2 c = omega (arith, server_room c.args.counts c.args.table.now c.requires.held.long c.requires.held.ranged c.args.server c.requires.t.0, c.server_at-at.ensures c.args.counts)
+bounds-table-at-2 c = omega (arith, server_room c.args.counts c.args.table.now c.requires.held.long c.requires.held.ranged c.args.server c.requires.servers_there.0, c.server_at-at.ensures c.args.counts)
 
 pub returns : goal.returns
 returns c =
@@ -33,4 +33,4 @@ returns c =
     let t = c.args.table.now in
     let at = ap (λ p. p + 1) (c.server_at-at.ensures n) ∙ sym (suspects_place n c.args.server) in
     followed_by n t (suspect_rule (view n t) c.args.server c.args.other) _ (rw (ne_eqb _ _ c.if-server-other.false))
-    (ap (set t _) (c.with.ensures ∙ ap (λ m. with m c.args.other) (cell_at n t (suspects c.args.server) _ c.requires.t.0 at)) ∙ ap (λ p. set t p (with (view n t (suspects c.args.server)) c.args.other)) at)
+    (ap (set t _) (c.with.ensures ∙ ap (λ m. with m c.args.other) (cell_at n t (suspects c.args.server) _ c.requires.servers_there.0 at)) ∙ ap (λ p. set t p (with (view n t (suspects c.args.server)) c.args.other)) at)
