@@ -19,6 +19,7 @@ use Rattle.protocol.proofs.Records.{kind_known, kind_unknown, event_record}
 use Rattle.table.specs.Table.{counts_of, view, size_tests}
 use Rattle.table.specs.Jobs.{number_of, applied}
 use Rattle.table.specs.Applies.{Applies, size, cell, unknown, field, down, unsent, unmet}
+use Rattle.table.proofs.Accepts.{table_is}
 
 -- 1 and 2 first, then the others
 in_order : (a b : Bool) (x : ℕ) → cond (eqb (cond a (cond b 0 2) 1) 0) x (cond a (cond b 0 2) 1) ≡ cond a (cond b x 2) 1
@@ -69,7 +70,7 @@ module _ (t : List ℕ) (r : Record) where
 
   number_is : number_of t r ≡ cond sized (cond ranged (record_refusal counts state r) 2) 1
   unfolding number_of
-  number_is = in_order sized ranged (record_refusal counts state r)
+  number_is = rw (table_is t) (in_order sized ranged (record_refusal counts state r))
 
   -- ---- a number that is given applies
 

@@ -21,7 +21,7 @@ use Rattle.protocol.proofs.Soundness.{range_step}
 use Rattle.table.specs.Layout.{table_length}
 use Rattle.table.specs.Table.{counts_of, view, size_tests, sound}
 use Rattle.table.specs.Jobs.{after, number_of, applied, table_number}
-use Rattle.table.proofs.Accepts.{Sound, sound_table, Accepts, accepts}
+use Rattle.table.proofs.Accepts.{Sound, table_is, sound_table, Accepts, accepts}
 use Rattle.table.proofs.Bridge.{event_of, after_view, after_length, after_counts}
 
 -- ---- 1, 2, or neither
@@ -38,8 +38,9 @@ asked false second = record { neither = (λ e. omega arith, λ t. absurd t); one
 
 module _ (t : List ℕ) where
   here : Asked (every (size_tests (counts_of t) t)) (in_range (counts_of t) (view (counts_of t) t)) (table_number t)
-  unfolding table_number
-  here = asked (every (size_tests (counts_of t) t)) (in_range (counts_of t) (view (counts_of t) t))
+  here =
+      subst (Asked (every (size_tests (counts_of t) t)) (in_range (counts_of t) (view (counts_of t) t))) (sym (table_is t))
+      (asked (every (size_tests (counts_of t) t)) (in_range (counts_of t) (view (counts_of t) t)))
 
   pub sound_when : (table_number t ≡ 0) ↔ T (sound t)
   unfolding sound
