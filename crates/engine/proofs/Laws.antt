@@ -1,7 +1,8 @@
 -- How the parts of the one-event job make up its meaning: the table's numbers, then the record's, then the rule's.
 use mathlib.Core.Path.{◌≡◌, refl, sym, ap, subst, ◌∙◌}
-use mathlib.Core.Bool.{true, false, cond, ◌&&◌, and-false}
-use mathlib.Core.List.{List}
+use mathlib.Core.Bool.{true, false, cond, ◌&&◌, and-false, and-true}
+use mathlib.Core.List.{List, [], ◌∷◌}
+use mathlib.Core.Logic.{◌⊎◌, inl, inr}
 use mathlib.Core.Option.{Option, none, some}
 use Prim.Native.Nat.{ℕ, ◌≤◌, ◌<◌}
 use native.Mathlib.Omega.{arith}
@@ -12,7 +13,7 @@ use Rattle.lists.specs.Tests.{every, inside}
 use Rattle.lists.proofs.Choice.{true_T, false_T, every_all, all_every, inside_high}
 use Rattle.protocol.specs.declared.Counts.{Counts}
 use Rattle.protocol.specs.declared.Event.{Event}
-use Rattle.protocol.specs.Events.{Kind, kind_of, record_of}
+use Rattle.protocol.specs.Events.{Kind as Line, kind_of, record_of}
 use Rattle.protocol.specs.Numbers.{count_tests, in_range, field_tests, fields, acting, are_up, refusal, refusal_at, record_refusal}
 use Rattle.protocol.specs.Rules.{rule}
 use Rattle.protocol.proofs.Records.{event_record}
@@ -22,7 +23,12 @@ use Rattle.table.specs.Jobs.{Done, set_up_number, set_up, table_number, number_o
 use Rattle.table.proofs.Accepts.{table_sound}
 use Rattle.table.proofs.Soundness.{sound_when}
 use Rattle.layout.proofs.Laws.{tests_ranged}
-use Rattle.rules.specs.Rules.{Held, rule_number, of_row, Follows}
+use Rattle.rules.specs.Rules.{Held, rule_number, ruled, of_row, row_ruled, Follows}
+use Rattle.rules.proofs.Laws.{at_kind}
+use Rattle.protocol.specs.declared.Kind.{Kind}
+use Rattle.protocol.specs.declared.Kind.TheVariants.{Issue, Timeout, RequestArrives, Compute, PrepareArrives, VoteArrives, ReadyArrives, Write, Suspect, Trust, Clean, DecideArrives, AckArrives, ResultArrives, ServerCrashes, DatabaseCrashes, ClientCrashes}
+use Rattle.protocol.specs.Kinds.{kind_number}
+use Rattle.protocol.specs.Cells.{client_up, server_up, database_up}
 use Rattle.engine.specs.Engine.{followed_at, followed, up_at, parties_up, answered}
 
 -- ---- numbers 1 and 2: the cells alone
@@ -98,7 +104,7 @@ has_header t is_sound = omega (arith, (sound_held t (counts_of t) refl is_sound)
 
 module _ (n : Counts) (t : List ℕ) (e : Event) where
   -- a record whose kind has this line in the table, and whose fields are as it says
-  module _ (kind : Kind) (line : kind_of e.kind ≡ some kind) (fit : every (fields n e) ≡ true) where
+  module _ (kind : Line) (line : kind_of e.kind ≡ some kind) (fit : every (fields n e) ≡ true) where
     event : Rattle.protocol.specs.Events.Event
     event = kind.event e
 
@@ -132,14 +138,18 @@ module _ (n : Counts) (t : List ℕ) (e : Event) where
     unfolding answered followed event
     ruled_here up = ap (followed_at n t e) line ∙ rw (number_is, sym up_is ∙ up, cells_are)
 
-  by_line : {P : Type 0} → (kind_of e.kind ≡ none → P) → ((kind : Kind) → kind_of e.kind ≡ some kind → P) → P
+  by_line : {P : Type 0} → (kind_of e.kind ≡ none → P) → ((kind : Line) → kind_of e.kind ≡ some kind → P) → P
   by_line {P} unlisted listed = at (kind_of e.kind) refl
     where
-      at : (k : Option Kind) → kind_of e.kind ≡ k → P
+      at : (k : Option Line) → kind_of e.kind ≡ k → P
       at none line = unlisted line
       at (some kind) line = listed kind line
 
-  -- where the kind has no line there is no field and no party to ask, and 3 is given
+  -- 3 is given where the kind has no line; then there is no field and no party to ask
+  pub unknown_kind : kind_of e.kind ≡ none → ◌≡◌ {A = Done} (record { number = 3; cells = t }) (answered n t e)
+  unfolding answered record_refusal
+  unknown_kind line = rw line
+
   pub wrong_field : every (fields n e) ≡ false → ◌≡◌ {A = Done} (record { number = 4; cells = t }) (answered n t e)
   unfolding answered record_refusal
   wrong_field f = by_line (λ line. absurd (false_T true (rw line at f))) (λ kind line. rw (line, rw line at f))
@@ -188,6 +198,134 @@ module _ (n : Counts) (e : Event) (k : ℕ) (is : e.kind ≡ k) (ofRows : of_row
     server = inside_high n.servers e.server i;
     database = inside_high n.databases e.database d;
   }
+
+-- ---- an event by its kind: what a match tells of an arm that takes some kinds together
+
+abbrev pub OneOf : Kind → List Kind → Type 0
+OneOf kind [] = Unit {0}
+OneOf kind (k ∷ []) = kind ≡ k
+OneOf kind (k ∷ m ∷ more) = (kind ≡ k) ⊎ OneOf kind (m ∷ more)
+
+abbrev pub EachOf : (Kind → Type 0) → List Kind → Type 0
+EachOf P [] = Unit {0}
+EachOf P (k ∷ []) = P k
+EachOf P (k ∷ m ∷ more) = P k × EachOf P (m ∷ more)
+
+of_one : (P : Kind → Type 0) (kind k : Kind) (more : List Kind) → EachOf P (k ∷ more) → OneOf kind (k ∷ more) → P kind
+of_one P kind k [] each is = subst P (sym is) each
+of_one P kind k (m ∷ more) each (inl is) = subst P (sym is) each.0
+of_one P kind k (m ∷ more) each (inr other) = of_one P kind m more each.1 other
+
+module _ (n : Counts) (t : List ℕ) (e : Event) (fit : every (fields n e) ≡ true) where
+  -- 5: the party that acts is named, and asked
+
+  abbrev pub ClientActs : Kind → Type 0
+  ClientActs kind = kind_number kind ≡ e.kind → T (inside n.clients e.client) × (eqb (view n t (client_up e.client)) 1 ≡ parties_up n t e)
+
+  client_up_at : (k : ℕ) → e.kind ≡ k → up_at n t e (kind_of k) ≡ (eqb (view n t (client_up e.client)) 1 && true) → eqb (view n t (client_up e.client)) 1 ≡ parties_up n t e
+  unfolding parties_up
+  client_up_at k is asks = sym (ap (λ x. up_at n t e (kind_of x)) is ∙ asks ∙ and-true _)
+
+  pub client_acts : (kind : Kind) → OneOf kind (Issue ∷ Timeout ∷ ResultArrives ∷ ClientCrashes ∷ []) → ClientActs kind
+  client_acts kind = of_one ClientActs kind Issue (Timeout ∷ ResultArrives ∷ ClientCrashes ∷ []) (
+    (λ read. ((at_kind n e 1 (sym read) fit).0, client_up_at 1 (sym read) refl)),
+    (
+      (λ read. ((at_kind n e 2 (sym read) fit).0, client_up_at 2 (sym read) refl)),
+      (
+        (λ read. ((at_kind n e 14 (sym read) fit).0, client_up_at 14 (sym read) refl)),
+        (λ read. ((at_kind n e 17 (sym read) fit).0, client_up_at 17 (sym read) refl)),
+      ),
+    ),
+  )
+
+  abbrev pub ServerActs : Kind → Type 0
+  ServerActs kind = kind_number kind ≡ e.kind → T (inside n.servers e.server) × (eqb (view n t (server_up e.server)) 1 ≡ parties_up n t e)
+
+  server_up_at : (k : ℕ) → e.kind ≡ k → up_at n t e (kind_of k) ≡ (eqb (view n t (server_up e.server)) 1 && true) → eqb (view n t (server_up e.server)) 1 ≡ parties_up n t e
+  unfolding parties_up
+  server_up_at k is asks = sym (ap (λ x. up_at n t e (kind_of x)) is ∙ asks ∙ and-true _)
+
+  pub server_acts : (kind : Kind) → OneOf kind (RequestArrives ∷ Compute ∷ VoteArrives ∷ ReadyArrives ∷ Write ∷ Suspect ∷ Trust ∷ Clean ∷ AckArrives ∷ ServerCrashes ∷ []) → ServerActs kind
+  server_acts kind = of_one ServerActs kind RequestArrives (Compute ∷ VoteArrives ∷ ReadyArrives ∷ Write ∷ Suspect ∷ Trust ∷ Clean ∷ AckArrives ∷ ServerCrashes ∷ []) (
+    (λ read. ((at_kind n e 3 (sym read) fit).1.1.0, server_up_at 3 (sym read) refl)),
+    (
+      (λ read. ((at_kind n e 4 (sym read) fit).1.1.0, server_up_at 4 (sym read) refl)),
+      (
+        (λ read. ((at_kind n e 6 (sym read) fit).1.1.0, server_up_at 6 (sym read) refl)),
+        (
+          (λ read. ((at_kind n e 7 (sym read) fit).1.1.0, server_up_at 7 (sym read) refl)),
+          (
+            (λ read. ((at_kind n e 8 (sym read) fit).1.1.0, server_up_at 8 (sym read) refl)),
+            (
+              (λ read. ((at_kind n e 9 (sym read) fit).1.1.0, server_up_at 9 (sym read) refl)),
+              (
+                (λ read. ((at_kind n e 10 (sym read) fit).1.1.0, server_up_at 10 (sym read) refl)),
+                (
+                  (λ read. ((at_kind n e 11 (sym read) fit).1.1.0, server_up_at 11 (sym read) refl)),
+                  (
+                    (λ read. ((at_kind n e 13 (sym read) fit).1.1.0, server_up_at 13 (sym read) refl)),
+                    (λ read. ((at_kind n e 15 (sym read) fit).1.1.0, server_up_at 15 (sym read) refl)),
+                  ),
+                ),
+              ),
+            ),
+          ),
+        ),
+      ),
+    ),
+  )
+
+  abbrev pub DatabaseActs : Kind → Type 0
+  DatabaseActs kind = kind_number kind ≡ e.kind → T (inside n.databases e.database) × (eqb (view n t (database_up e.database)) 1 ≡ parties_up n t e)
+
+  database_up_at : (k : ℕ) → e.kind ≡ k → up_at n t e (kind_of k) ≡ (eqb (view n t (database_up e.database)) 1 && true) → eqb (view n t (database_up e.database)) 1 ≡ parties_up n t e
+  unfolding parties_up
+  database_up_at k is asks = sym (ap (λ x. up_at n t e (kind_of x)) is ∙ asks ∙ and-true _)
+
+  pub database_acts : (kind : Kind) → OneOf kind (PrepareArrives ∷ DecideArrives ∷ DatabaseCrashes ∷ []) → DatabaseActs kind
+  database_acts kind = of_one DatabaseActs kind PrepareArrives (DecideArrives ∷ DatabaseCrashes ∷ []) (
+    (λ read. ((at_kind n e 5 (sym read) fit).1.1.1.0, database_up_at 5 (sym read) refl)),
+    (
+      (λ read. ((at_kind n e 12 (sym read) fit).1.1.1.0, database_up_at 12 (sym read) refl)),
+      (λ read. ((at_kind n e 16 (sym read) fit).1.1.1.0, database_up_at 16 (sym read) refl)),
+    ),
+  )
+
+  pub nobody_acts : 18 ≡ e.kind → true ≡ parties_up n t e
+  unfolding parties_up
+  nobody_acts read = sym (ap (λ x. up_at n t e (kind_of x)) (sym read))
+
+  -- 3 to 8 and 11 to 13: the event names a result, and its rule is that of a row
+  abbrev pub OfRow : Kind → Type 0
+  OfRow kind = kind_number kind ≡ e.kind → Follows n e × (ruled n t (row_ruled n e (view n t)) ≡ followed n t e)
+
+  pub is_of_row : (kind : Kind) → OneOf kind (RequestArrives ∷ Compute ∷ PrepareArrives ∷ VoteArrives ∷ ReadyArrives ∷ Write ∷ Clean ∷ DecideArrives ∷ AckArrives ∷ []) → OfRow kind
+  unfolding followed
+  is_of_row kind = of_one OfRow kind RequestArrives (Compute ∷ PrepareArrives ∷ VoteArrives ∷ ReadyArrives ∷ Write ∷ Clean ∷ DecideArrives ∷ AckArrives ∷ []) (
+    (λ read. let f = at_kind n e 3 (sym read) fit in (by_server n e 3 (sym read) refl fit f.0 f.1.0 f.1.1.0 f.1.1.1.0, rw (sym read))),
+    (
+      (λ read. let f = at_kind n e 4 (sym read) fit in (by_server n e 4 (sym read) refl fit f.0 f.1.0 f.1.1.0 f.1.1.1.0, rw (sym read))),
+      (
+        (λ read. let f = at_kind n e 5 (sym read) fit in (by_database n e 5 (sym read) refl fit f.0 f.1.0 f.1.1.0 f.1.1.1.0, rw (sym read))),
+        (
+          (λ read. let f = at_kind n e 6 (sym read) fit in (by_both_parties n e 6 (sym read) refl fit f.0 f.1.0 f.1.1.0 f.1.1.1.0, rw (sym read))),
+          (
+            (λ read. let f = at_kind n e 7 (sym read) fit in (by_both_parties n e 7 (sym read) refl fit f.0 f.1.0 f.1.1.0 f.1.1.1.0, rw (sym read))),
+            (
+              (λ read. let f = at_kind n e 8 (sym read) fit in (by_server n e 8 (sym read) refl fit f.0 f.1.0 f.1.1.0 f.1.1.1.0, rw (sym read))),
+              (
+                (λ read. let f = at_kind n e 11 (sym read) fit in (by_server n e 11 (sym read) refl fit f.0 f.1.0 f.1.1.0 f.1.1.1.0, rw (sym read))),
+                (
+                  (λ read. let f = at_kind n e 12 (sym read) fit in (by_both_parties n e 12 (sym read) refl fit f.0 f.1.0 f.1.1.0 f.1.1.1.0, rw (sym read))),
+                  (λ read. let f = at_kind n e 13 (sym read) fit in (by_both_parties n e 13 (sym read) refl fit f.0 f.1.0 f.1.1.0 f.1.1.1.0, rw (sym read))),
+                ),
+              ),
+            ),
+          ),
+        ),
+      ),
+    ),
+  )
 
 -- ---- the first job
 

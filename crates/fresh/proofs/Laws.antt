@@ -1,12 +1,11 @@
--- One turn of each loop, and that the code's writes to a cleared table make the fresh one.
+-- One turn of the loop, and that the code's writes to a cleared table make the fresh one.
 use mathlib.Core.Path.{◌≡◌, refl, ap, ◌∙◌}
 use mathlib.Core.List.{List, [], ◌∷◌, ◌++◌, append_assoc, append-nil}
-use Prim.Native.Nat.{ℕ, zero, suc, ◌+◌, ◌-◌, ◌*◌, ◌≤◌, ◌<◌}
+use Prim.Native.Nat.{ℕ, zero, suc, ◌+◌, ◌*◌, ◌≤◌}
 use native.Mathlib.Nat.{mul-zero, mul-suc}
-use native.Mathlib.Numerals.{add-one}
 use native.Mathlib.Omega.{arith}
-use lib.ListN.{length, get_or, set, drop, replicate, length-append, length-replicate, replicate-append-replicate}
-use lib.Seq.{drop-length, drop-cons, set_at}
+use lib.ListN.{length, set, replicate, length-append, length-replicate, replicate-append-replicate}
+use lib.Seq.{set_at}
 use Rattle.protocol.specs.declared.Counts.{Counts}
 use Rattle.protocol.specs.Cells.{server_up, database_up, client_up}
 use Rattle.table.specs.Layout.{row_length, servers_start, databases_start, clients_start, rows_start, place, table_length}
@@ -14,35 +13,16 @@ use Rattle.table.specs.Table.{repeated, fresh_table}
 use Rattle.table.proofs.Fresh.{repeated_length}
 use Rattle.fresh.specs.Writes.{headed, raised}
 
--- ---- the loops
+-- ---- the loop: one more cell raised
 
--- one more cell cleared
-pub clear_on : (at : ℕ) (now start : List ℕ) → at < length start → now ≡ replicate at 0 ++ drop at start
-    → set now at 0 ≡ replicate (at + 1) 0 ++ drop (at + 1) start
-clear_on at now start h e =
-    rw (
-      e,
-      drop-cons start at 0 h,
-      set_at (replicate at 0) (get_or start at 0) (drop (suc at) start) 0 at (length-replicate at 0),
-      ← replicate-append-replicate {A = ℕ} at 1 0,
-      append_assoc,
-      add-one,
-    )
-
-pub clear_end : (at : ℕ) (now start : List ℕ) → at ≡ length start → now ≡ replicate at 0 ++ drop at start → now ≡ replicate (length start) 0
-clear_end at now start h e = rw (e, h, drop-length, append-nil)
-
--- one more cell raised
-pub raise_on : (left at width : ℕ) (now : List ℕ) → 1 ≤ left → raised left at width now ≡ raised (left - 1) (at + width) width (set now at 1)
-raise_on zero at width now h = absurd (omega arith)
-raise_on (suc left) at width now h = let e : suc left - 1 ≡ left = omega arith in rw e
-
-pub raise_end : (left at width : ℕ) (now : List ℕ) → left ≡ 0 → raised left at width now ≡ now
-raise_end left at width now e = rw e
-
--- the cells that it has left are those of one party, and the others'
-pub party_on : (width left : ℕ) → 1 ≤ left → width * left ≡ width + width * (left - 1)
-party_on width left h = let e : left ≡ suc (left - 1) = omega arith in ap (λ (k : ℕ). width * k) e ∙ omega (arith, mul-suc width (left - 1))
+pub raised_more : (count start width : ℕ) (t : List ℕ) → raised (count + 1) start width t ≡ set (raised count start width t) (start + width * count) 1
+raised_more zero start width t = let e : start + width * 0 ≡ start = omega (arith, mul-zero width) in rw e
+raised_more (suc count) start width t =
+    let more : suc count + 1 ≡ suc (count + 1) = omega arith in
+    let place : start + width + width * count ≡ start + width * suc count = omega (arith, mul-suc width count) in
+    ap (λ m. raised m start width t) more
+    ∙ raised_more count (start + width) width (set t start 1)
+    ∙ ap (λ at. set (raised (suc count) start width t) at 1) place
 
 -- ---- the parties
 
@@ -63,6 +43,8 @@ module _ (n : Counts) where
   pub parties_inside : rows_start n ≤ table_length n
   unfolding table_length
   parties_inside = omega arith
+
+pub ruleset parties = (servers_first, databases_first, clients_first, parties_inside)
 
 -- the cells of a party: up, and the zeros behind it
 abbrev party : ℕ → List ℕ

@@ -1,23 +1,12 @@
 // Writes the fresh table into lent cells: clears them all, writes the header, and raises every party's up cell.
 #![tactic(auto)]
 
-ghost use Rattle.std.specs.Prelude.{◌≡◌, ◌+◌, ◌*◌, ◌≤◌, length, replicate};
+ghost use Rattle.std.specs.Prelude.{◌≡◌, ◌+◌, ◌*◌, ◌≤◌, length};
 ghost use Rattle.table.specs.Layout.{table_length};
 ghost use Rattle.table.specs.Table.{fresh_table};
 ghost use Rattle.fresh.specs.Writes.{headed, raised};
 
 use protocol::Counts;
-
-// All cells 0: whatever the caller left in them is gone.
-fn clear(table: &mut [u16])
-    ensures { table.new ≡ replicate (length table.old) 0 }
-{
-    let mut at = 0;
-    while at < table.len() {
-        table[at] = 0;
-        at += 1;
-    }
-}
 
 // The counts in the header.
 fn write_header(table: &mut [u16], counts: Counts)
@@ -31,25 +20,23 @@ fn write_header(table: &mut [u16], counts: Counts)
 }
 
 // The up cells of all parties of one sort, each `width` cells behind the one before.
+#[tactic(auto, using(crate::proofs::Laws::raised_more))]
 fn raise(table: &mut [u16], start: usize, width: usize, count: u16)
     requires { (1 ≤ width) × (start + width * count ≤ length table.old) }
     ensures { table.new ≡ raised count start width table.old }
 {
-    let mut at = start;
-    let mut left = count;
-    while left > 0 {
-        table[at] = 1;
-        at += width;
-        left -= 1;
+    for party in 0..count as usize {
+        table[start + width * party] = 1;
     }
 }
 
 // The fresh table.
+#[tactic(auto, using(crate::proofs::Laws::parties))]
 pub fn make(table: &mut [u16], counts: Counts)
     requires { length table.old ≡ table_length counts }
     ensures { table.new ≡ fresh_table counts }
 {
-    clear(table);
+    table.fill(0);
     write_header(table, counts);
     raise(
         table,

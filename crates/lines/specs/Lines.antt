@@ -1,5 +1,5 @@
 -- The first line and an event line, read, and the lines of clients and results, as text.
-use Rattle.std.specs.Prelude.{List, [], ◌∷◌, ℕ, ◌≤◌}
+use Rattle.std.specs.Prelude.{List, [], ◌∷◌, ℕ, zero, suc, ◌≤◌}
 use Rattle.std.proofs.Math.Option.{Option, none, some}
 use Rattle.protocol.specs.declared.Counts.{Counts}
 use Rattle.protocol.specs.declared.Event.{Event}
@@ -8,8 +8,8 @@ use Rattle.text.specs.Reading.{most, read_number}
 
 -- ---- reading: what a line says, and what stands behind it
 
--- a number, and then what is made of it and of the text behind it
-abbrev pub and_then : {X : Type 0} → Option (ℕ × List ℕ) → (ℕ → List ℕ → Option X) → Option X
+-- what was read, and then what is made of it and of the text behind it
+abbrev pub and_then : {A X : Type 0} → Option (A × List ℕ) → (A → List ℕ → Option X) → Option X
 and_then none next = none
 and_then (some found) next = next found.0 found.1
 
@@ -32,6 +32,19 @@ read_event text =
     and_then (read_number space database-on) (λ database value-on.
     and_then (read_number newline value-on) (λ value behind.
     some (record { kind = kind; client = client; attempt = attempt; server = server; database = database; value = value }, behind)))))))
+
+-- the byte that ends a number of a line, by how many numbers stand behind it
+abbrev pub end_before : ℕ → ℕ
+end_before zero = newline
+end_before (suc others) = space
+
+-- so many numbers, a space between and a newline at the end
+unfoldable pub read_numbers : ℕ → List ℕ → Option (List ℕ × List ℕ)
+read_numbers zero text = some ([], text)
+read_numbers (suc others) text =
+    and_then (read_number (end_before others) text) (λ number onward.
+    and_then (read_numbers others onward) (λ numbers behind.
+    some (number ∷ numbers, behind)))
 
 -- ---- writing
 

@@ -1,136 +1,102 @@
 // The lines of the listing program: the first line and the event lines read, the lines of its output written.
 #![tactic(auto)]
 
-ghost use Rattle.std.specs.Prelude.{◌≡◌, [], ◌∷◌, drop};
-ghost use Rattle.text.specs.Writing.{puts, line};
-ghost use Rattle.lines.specs.Lines.{read_counts, read_event, client_text, result_text};
-ghost use Rattle.lines.specs.Seen.{counts_seen, event_seen};
+ghost use Rattle.std.specs.Prelude.{◌≡◌, [], ◌∷◌};
+ghost use Rattle.text.specs.Writing.{line};
+ghost use Rattle.text.specs.Lent.{Continues};
+ghost use Rattle.text.specs.Seen.{seen};
+ghost use Rattle.lines.specs.Lines.{end_before, read_numbers, read_counts, read_event, client_text, result_text};
 
 use protocol::{Counts, Event};
-use text::{NEWLINE, Number, SPACE};
-
-// The letters that the lines of clients and of results start with.
-const CLIENT: u8 = 67;
-
-const RESULT: u8 = 82;
+use text::{NEWLINE, Page, SPACE};
 
 // ---- reading
 
-// The counts of a first line, and the place behind it.
-#[derive(Clone, Copy)]
-pub enum FirstLine {
-    Found(Counts, usize),
-    Malformed,
-}
-
-// The record of an event line, and the place behind it.
-#[derive(Clone, Copy)]
-pub enum EventLine {
-    Found(Event, usize),
-    Malformed,
-}
-
-pub fn read_counts(input: &[u8]) -> FirstLine
-    ensures { counts_seen input.now result ≡ read_counts input.now }
+// The byte that ends a number of a line, by how many numbers stand behind it there.
+fn end_before(others: usize) -> u8
+    ensures { result ≡ end_before others }
 {
-    let Number::Found(clients, behind_clients) = text::read_number(input, 0, SPACE) else {
-        return FirstLine::Malformed;
-    };
-    let Number::Found(servers, behind_servers) = text::read_number(input, behind_clients, SPACE)
-    else {
-        return FirstLine::Malformed;
-    };
-    let Number::Found(databases, behind_databases) = text::read_number(input, behind_servers, SPACE)
-    else {
-        return FirstLine::Malformed;
-    };
-    let Number::Found(attempts, behind) = text::read_number(input, behind_databases, NEWLINE) else {
-        return FirstLine::Malformed;
-    };
+    if others == 0 { NEWLINE } else { SPACE }
+}
+
+// The numbers of a line, a space between and a newline at the end; what stands behind it.
+fn read_numbers<const N: usize>(input: &[u8]) -> Option<([u16; N], &[u8])>
+    ensures { seen result ≡ read_numbers N input.now }
+{
+    let mut numbers = [0; N];
+    let mut rest = input;
+    for place in 0..N {
+        let (number, behind) = text::read_number(rest, end_before(N - place - 1))?;
+        numbers[place] = number;
+        rest = behind;
+    }
+    Some((numbers, rest))
+}
+
+// The counts of a first line, and what stands behind it.
+pub fn read_counts(input: &[u8]) -> Option<(Counts, &[u8])>
+    ensures { seen result ≡ read_counts input.now }
+{
+    let ([clients, servers, databases, attempts], behind) = read_numbers::<4>(input)?;
     let counts = Counts {
-        clients: clients,
-        servers: servers,
-        databases: databases,
-        attempts: attempts,
+        clients,
+        servers,
+        databases,
+        attempts,
     };
-    FirstLine::Found(counts, behind)
+    Some((counts, behind))
 }
 
-pub fn read_event(input: &[u8], start: usize) -> EventLine
-    ensures { event_seen input.now result ≡ read_event (drop start input.now) }
+// The record of an event line, and what stands behind it.
+pub fn read_event(input: &[u8]) -> Option<(Event, &[u8])>
+    ensures { seen result ≡ read_event input.now }
 {
-    let Number::Found(kind, behind_kind) = text::read_number(input, start, SPACE) else {
-        return EventLine::Malformed;
-    };
-    let Number::Found(client, behind_client) = text::read_number(input, behind_kind, SPACE) else {
-        return EventLine::Malformed;
-    };
-    let Number::Found(attempt, behind_attempt) = text::read_number(input, behind_client, SPACE)
-    else {
-        return EventLine::Malformed;
-    };
-    let Number::Found(server, behind_server) = text::read_number(input, behind_attempt, SPACE)
-    else {
-        return EventLine::Malformed;
-    };
-    let Number::Found(database, behind_database) = text::read_number(input, behind_server, SPACE)
-    else {
-        return EventLine::Malformed;
-    };
-    let Number::Found(value, behind) = text::read_number(input, behind_database, NEWLINE) else {
-        return EventLine::Malformed;
-    };
+    let ([kind, client, attempt, server, database, value], behind) = read_numbers::<6>(input)?;
     let event = Event {
-        kind: kind,
-        client: client,
-        attempt: attempt,
-        server: server,
-        database: database,
-        value: value,
+        kind,
+        client,
+        attempt,
+        server,
+        database,
+        value,
     };
-    EventLine::Found(event, behind)
+    Some((event, behind))
 }
 
-// ---- writing: as in `text`, at a place of the lent room
+// ---- writing
+
+// The numbers of a line, a space between and a newline at the end.
+fn put_line(page: &mut Page, numbers: &[u16])
+    ensures { Continues page.old page.new (line numbers.now) }
+{
+    let Some((last, others)) = numbers.split_last() else {
+        return page.put(NEWLINE);
+    };
+    for number in others {
+        page.put_number(*number, SPACE);
+    }
+    page.put_number(*last, NEWLINE);
+}
 
 // The place of an event and its number.
-pub fn put_place(out: &mut [u8], at: usize, place: u16, number: u16) -> usize
-    ensures { record { cells = out.new; at = result } ≡ puts (record { cells = out.old; at = at }) (line (place ∷ number ∷ [])) }
+pub fn put_place(page: &mut Page, place: u16, number: u16)
+    ensures { Continues page.old page.new (line (place ∷ number ∷ [])) }
 {
-    let behind = text::put_number(out, at, place, SPACE);
-    text::put_number(out, behind, number, NEWLINE)
-}
-
-// The last four numbers of a line.
-fn put_four(out: &mut [u8], at: usize, first: u16, second: u16, third: u16, fourth: u16) -> usize
-    ensures { record { cells = out.new; at = result } ≡ puts (record { cells = out.old; at = at }) (line (first ∷ second ∷ third ∷ fourth ∷ [])) }
-{
-    let behind_first = text::put_number(out, at, first, SPACE);
-    let behind_second = text::put_number(out, behind_first, second, SPACE);
-    let behind_third = text::put_number(out, behind_second, third, SPACE);
-    text::put_number(out, behind_third, fourth, NEWLINE)
+    put_line(page, &[place, number]);
 }
 
 // A client: its phase, its attempt and the delivered value.
-pub fn put_client(
-    out: &mut [u8],
-    at: usize,
-    client: u16,
-    phase: u16,
-    attempt: u16,
-    delivered: u16,
-) -> usize
-    ensures { record { cells = out.new; at = result } ≡ puts (record { cells = out.old; at = at }) (client_text client phase attempt delivered) }
+pub fn put_client(page: &mut Page, client: u16, phase: u16, attempt: u16, delivered: u16)
+    ensures { Continues page.old page.new (client_text client phase attempt delivered) }
 {
-    let behind_letter = text::put(out, at, CLIENT);
-    let start = text::put(out, behind_letter, SPACE);
-    put_four(out, start, client, phase, attempt, delivered)
+    page.put(b'C');
+    page.put(SPACE);
+    put_line(page, &[client, phase, attempt, delivered]);
 }
 
 // A result: its owner, its outcome and value, and how many databases voted yes and committed.
 pub fn put_result(
-    out: &mut [u8],
-    at: usize,
+    page: &mut Page,
     client: u16,
     attempt: u16,
     owner: u16,
@@ -138,13 +104,13 @@ pub fn put_result(
     value: u16,
     votes: u16,
     commits: u16,
-) -> usize
-    ensures { record { cells = out.new; at = result } ≡ puts (record { cells = out.old; at = at }) (result_text client attempt owner outcome value votes commits) }
+)
+    ensures { Continues page.old page.new (result_text client attempt owner outcome value votes commits) }
 {
-    let behind_letter = text::put(out, at, RESULT);
-    let start = text::put(out, behind_letter, SPACE);
-    let behind_client = text::put_number(out, start, client, SPACE);
-    let behind_attempt = text::put_number(out, behind_client, attempt, SPACE);
-    let behind_owner = text::put_number(out, behind_attempt, owner, SPACE);
-    put_four(out, behind_owner, outcome, value, votes, commits)
+    page.put(b'R');
+    page.put(SPACE);
+    put_line(
+        page,
+        &[client, attempt, owner, outcome, value, votes, commits],
+    );
 }

@@ -1,7 +1,7 @@
 -- The whole listing, by what becomes of its first line, and its parts one behind another.
 use mathlib.Core.Path.{◌≡◌, sym, ap, ◌∙◌}
 use mathlib.Core.Bool.{true, false}
-use mathlib.Core.List.{List, [], ◌∷◌, ◌++◌}
+use mathlib.Core.List.{List, [], ◌∷◌}
 use mathlib.Core.Option.{none, some}
 use Prim.Native.Nat.{ℕ, ◌≤◌, ◌<◌, min}
 use lib.Dec.{T, eqb}
@@ -16,11 +16,15 @@ use Rattle.table.specs.Layout.{table_length}
 use Rattle.table.specs.Table.{view, sound, fresh_table}
 use Rattle.table.specs.Jobs.{set_up}
 use Rattle.table.proofs.Fresh.{fresh_sound, set_up_number_lem, set_up_lem}
+use Rattle.table.proofs.Places.{length_most}
 use Rattle.table.proofs.Soundness.{sound_when}
+use native.Mathlib.Omega.{arith}
 use Rattle.layout.specs.Ranged.{Ranged}
 use Rattle.layout.proofs.Laws.{ranged_tests}
-use Rattle.text.specs.Writing.{Page, puts, line, over}
-use Rattle.text.proofs.Pages.{follows, puts_over}
+use Rattle.text.specs.declared.Page.{Page}
+use Rattle.text.specs.Writing.{puts, line, over}
+use Rattle.text.specs.Lent.{shown, Continues}
+use Rattle.text.proofs.Pages.{continues, puts_over}
 use Rattle.lines.specs.Lines.{read_counts}
 use Rattle.listing.specs.Script.{Script, script}
 use Rattle.listing.specs.Listing.{longest, played, client_line, result_line, for_each, ending, listed, listing}
@@ -37,20 +41,19 @@ pub set_up_sound : (n : Counts) (t : List ℕ) → length t ≡ table_length n �
 set_up_sound n t long ranged number cells e =
     rw (set_up_fresh n t long ranged number cells e) ((sound_when (fresh_table n)).0 (fresh_sound n (ranged_tests n ranged)))
 
+-- the largest table has room for each
+pub cells_enough : (n : Counts) (size : ℕ) → true ≡ every (count_tests n) → size ≡ table_length n → size ≤ 3788
+cells_enough n size fits same = omega (arith, length_most n (true_T _ (sym fits)))
+
 -- the events, the clients and the results
 pub parts_listed : (n : Counts) (s : Script) (cells left : List ℕ) (first second third last : Page) → cells ≡ fresh_table n
-    → second ≡ puts first (played 1 cells s).text → left ≡ (played 1 cells s).cells
-    → third ≡ puts second (for_each n.clients (client_line (view n left)))
-    → last ≡ puts third (for_each n.clients (λ c. for_each n.attempts (λ k. result_line c k (row_of (view n left) c k))))
-    → last ≡ puts first (listed n (played 1 (fresh_table n) s))
+    → Continues first second (played 1 cells s).text → left ≡ (played 1 cells s).cells
+    → Continues second third (for_each n.clients (client_line (view n left)))
+    → Continues third last (for_each n.clients (λ c. for_each n.attempts (λ k. result_line c k (row_of (view n left) c k))))
+    → Continues first last (listed n (played 1 (fresh_table n) s))
 unfolding ending
 parts_listed n s cells left first second third last start events leaves clients results =
-    let run = played 1 cells s in
-    let shown = for_each n.clients (client_line (view n left)) in
-    let rows = for_each n.clients (λ c. for_each n.attempts (λ k. result_line c k (row_of (view n left) c k))) in
-    follows first second last run.text (shown ++ rows) events (follows second third last shown rows clients results)
-    ∙ ap (λ l. puts first (run.text ++ ending n (view n l))) leaves
-    ∙ ap (λ t. puts first (listed n (played 1 t s))) start
+    rw (leaves, start) at (continues _ _ _ _ _ events (continues _ _ _ _ _ clients results))
 
 -- ---- the first line
 
@@ -73,9 +76,16 @@ module _ (input : List ℕ) where
       unfolding listing
       counts_listed e = rw (le-leb (length input) longest h, reads, e)
 
--- what is printed, in the room that there is
-pub printed : (input out left text : List ℕ) (count : ℕ) → listing input ≡ text → record { cells = left; at = count } ≡ puts (record { cells = out; at = 0 }) text
-    → (count ≡ min (length (listing input)) (length out)) × (left ≡ over out (listing input))
-printed input out left text count e f =
-    let whole = f ∙ (puts_over out text ∙ ap (λ l. record { cells = over out l; at = min (length l) (length out) }) (sym e)) in
-    (ap (λ page. page.at) whole, ap (λ page. page.cells) whole)
+-- what is printed from the start of a page, in the room that there is
+module _ (input : List ℕ) (first last : Page) (start : first.end ≡ 0) (written : Continues first last (listing input)) where
+  printed : shown last ≡ record { cells = over first.room.now (listing input); at = min (length (listing input)) (length first.room.now) }
+  printed =
+      written.text_after
+      ∙ ap (λ (at : ℕ). puts (record { cells = first.room.now; at = at }) (listing input)) start
+      ∙ puts_over first.room.now (listing input)
+
+  pub printed_count : last.end ≡ min (length (listing input)) (length first.room.now)
+  printed_count = ap (λ page. page.at) printed
+
+  pub printed_cells : last.room.now ≡ over first.room.now (listing input)
+  printed_cells = ap (λ page. page.cells) printed

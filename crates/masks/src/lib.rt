@@ -1,4 +1,5 @@
 // A 16-bit number as a set of parties: bit i - 1 stands for party i.
+// A party is a number and no type of its own: it comes out of records and cells, and a type would be made at each call and taken apart in each contract.
 #![tactic(auto)]
 
 ghost use Rattle.std.specs.Prelude.{◌≡◌, ◌≤◌};

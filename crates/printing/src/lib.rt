@@ -1,19 +1,16 @@
 // Reads an input, writes its listing to standard output, and opens the stored inputs of a program one by one.
 #![tactic(auto)]
 
-ghost use Rattle.std.specs.Prelude.{◌≡◌, ◌≤◌, length};
-ghost use Rattle.printing.specs.Got.{got_bytes};
+ghost use Rattle.std.specs.Prelude.{◌≡◌, ℕ, ◌+◌, ◌/◌, ◌%◌, ◌<◌, ◌≤◌, length, take, IfOk, OnErr};
+ghost use Rattle.std.specs.Io.KnownBytes.{Consumes, IsAtEnd};
+ghost use Rattle.text.specs.Writing.{zero_digit};
 
 use std::fs::File;
 use std::io::{self, Read, Write};
 use std::rt::Files;
 
-// Room for the longest input and one byte more, by which one that is too long is told.
-fn blank() -> [u8; 65537]
-    ensures { 65537 ≡ length result }
-{
-    [0; 65537]
-}
+// Room for the longest input and one byte more, by which one that is too long is told; memory is fixed.
+const ROOM: usize = 65537;
 
 // Says on standard error what failed, as its caller names it, and why.
 pub fn fail<R: Eprint>(rt: &R, name: &str, error: io::Error) {
@@ -31,55 +28,40 @@ fn write_listing<R: Print + Eprint>(rt: &R, input: &[u8]) {
     }
 }
 
-// How many bytes were read, or why a read failed.
-#[derive(Drop)]
-pub enum Got {
-    Bytes(usize),
-    Nothing(io::Error),
-}
-
-// One read into the room.
-fn read_some<F: Read>(input: &mut F, room: &mut [u8]) -> Got
-    ensures { got_bytes result ≤ length room.old }
-{
-    match input.read(room) {
-        Ok(count) => Got::Bytes(count),
-        Err(error) => Got::Nothing(error),
-    }
-}
-
-// Reads to the end of the input or of the room.
-pub fn read_input<F: Read>(input: &mut F, room: &mut [u8]) -> Got
-    ensures { got_bytes result ≤ length room.old }
+// Reads to the end of the input or of the room, and answers how many bytes that is; after an error what was read stands at the front of the room.
+// A read says how far it came, so the turns are not counted.
+pub fn read_input<F: Read>(input: &mut F, room: &mut [u8]) -> io::Result<usize>
+    ensures fits { IfOk result (λ count. count ≤ length room.old) }
+    ensures bytes { IfOk result (λ count. Consumes (F.remaining input.old) (F.remaining input.new) (take count room.new)) }
+    ensures end { IfOk result (λ count. count < length room.old → IsAtEnd (F.remaining input.new)) }
+    ensures none_lost { OnErr result ((count : ℕ) × (count ≤ length room.old) × Consumes (F.remaining input.old) (F.remaining input.new) (take count room.new)) }
 {
     let mut filled = 0;
     while filled < room.len() {
-        let more = match read_some(input, &mut room[filled..]) {
-            Got::Bytes(more) => more,
-            Got::Nothing(error) => return Got::Nothing(error),
-        };
+        let more = input.read(&mut room[filled..])?;
         if more == 0 {
-            return Got::Bytes(filled);
+            break;
         }
         filled += more;
     }
-    Got::Bytes(filled)
+    Ok(filled)
 }
 
 // Prints the listing of an input, or says why it cannot be read; `name` is what the message calls it.
 pub fn print_listing<R: Print + Eprint, F: Read>(rt: &R, input: &mut F, name: &str) {
-    let mut room = blank();
+    let mut room = [0; ROOM];
     match read_input(input, &mut room) {
-        Got::Bytes(length) => write_listing(rt, &room[..length]),
-        Got::Nothing(error) => fail(rt, name, error),
+        Ok(length) => write_listing(rt, &room[..length]),
+        Err(error) => fail(rt, name, error),
     }
 }
 
 // The digit of a number at a place.
 fn digit(number: u16, place: u16) -> u8
     requires { 1 ≤ place }
+    ensures { result ≡ zero_digit + number / place % 10 }
 {
-    48 + (number / place % 10) as u8
+    b'0' + (number / place % 10) as u8
 }
 
 // Opens the stored input of a number, in the file that three digits name, and prints a line with the name; nothing where there is none.

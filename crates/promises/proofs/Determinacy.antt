@@ -11,7 +11,8 @@ use denote.Triple.Entry.{Args, Res}
 use types.Logic.{Logic}
 use prog.Memory.{Memory}
 use prog.Routine.{Routine}
-use Rattle.protocol.specs.declared.Answer.{Answer}
+use Rattle.std.specs.Prelude.{Result}
+use Rattle.protocol.specs.declared.Refusal.{Refusal}
 use Rattle.protocol.specs.declared.Event.{Event as Record}
 use Rattle.protocol.specs.Answers.{answer_number}
 use Rattle.protocol.proofs.Answers.{one_answer}
@@ -40,7 +41,7 @@ use Rattle.promises.specs.Outcomes.{OneResult, OneOutcome, RanSo}
 
 -- ---- the first two public jobs: equal numbers are equal answers
 
-one_done : (done : Done) (a b : Answer) (t q : List ℕ) → record { number = answer_number a; cells = t } ≡ done → record { number = answer_number b; cells = q } ≡ done
+one_done : (done : Done) (a b : Result (Unit {0}) Refusal) (t q : List ℕ) → record { number = answer_number a; cells = t } ≡ done → record { number = answer_number b; cells = q } ≡ done
     → (a ≡ b) × (t ≡ q)
 one_done done a b t q first second =
     let same = first ∙ sym second in

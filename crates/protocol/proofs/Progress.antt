@@ -11,6 +11,7 @@ use Rattle.lists.specs.Tests.{inside}
 use Rattle.lists.proofs.Choice.{by_cond, not_not}
 use Rattle.masks.specs.Mask.{has, with}
 use Rattle.masks.proofs.Laws.{has_has_all, mark}
+use Rattle.std.specs.Prelude.{Some}
 use Rattle.registers.specs.declared.Decision.TheVariants.{Abort}
 use Rattle.registers.proofs.Laws.{offer_elim}
 use Rattle.protocol.specs.declared.Counts.{Counts}
@@ -188,7 +189,7 @@ module _ (n : Counts) (c k i : ℕ) (is-client : Id n.clients c) (is-attempt : I
   unfolding next
   clean_now s =
       at_row (λ r. (0 < r outcome) × T (has (r terminating) i)) s c k (clean_rule i (s (suspects i)) (row_of s c k)).writes (
-        offer_elim (λ o v. 0 < o) (s (row c k outcome)) (s (row c k value)) Abort (λ empty. omega arith) (λ written. written),
+        offer_elim (λ o v. 0 < o) (s (row c k outcome)) (s (row c k value)) (Some Abort) (λ empty. omega arith) (λ written. written),
         mark (s (row c k terminating)) i is-server.0,
       )
 

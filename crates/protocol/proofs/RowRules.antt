@@ -11,8 +11,9 @@ use Rattle.lists.proofs.Choice.{by_cond, by_bool, by_both, not_not}
 use Rattle.masks.specs.Mask.{has, with, put, all, count}
 use Rattle.masks.proofs.Laws.{has_all_in, has_put_same, mark, keep, keep_other, with_elim, put_elim, keep_at, at_elim, put_below, counted_all, has_all_has}
 use Rattle.registers.specs.Register.{outcome_of, value_of, claimed}
+use Rattle.std.specs.Prelude.{Option, None, Some}
 use Rattle.registers.specs.declared.Decision.{Decision}
-use Rattle.registers.specs.declared.Decision.TheVariants.{None, Commit, Abort}
+use Rattle.registers.specs.declared.Decision.TheVariants.{Commit, Abort}
 use Rattle.registers.proofs.Laws.{claim_elim, claim_once, offer_elim}
 use Rattle.protocol.specs.declared.Counts.{Counts}
 use Rattle.protocol.specs.Cells.{owner, outcome, value, computed, sent, voted, voted_yes, heard_yes, terminating, decided, committed, acked, known}
@@ -33,10 +34,10 @@ Keeps n r q = record { invariant : RowInvariant n q; grows : Grows r q }
 put_with : (m l d : ℕ) (b : Bool) → 1 ≤ d → Within m l → Within (put m d b) (with l d)
 put_with m l d b low f = put_elim (λ j. T (has (with l d) j)) m d b (λ t. mark l d low) (λ j u. keep l d j (f j u))
 
-pub outcome_most : (decision : Decision) → outcome_of decision ≤ 2
+pub outcome_most : (decision : Option Decision) → outcome_of decision ≤ 2
 outcome_most None = omega arith
-outcome_most (Commit x) = omega arith
-outcome_most Abort = omega arith
+outcome_most (Some (Commit x)) = omega arith
+outcome_most (Some Abort) = omega arith
 
 module _ (n : Counts) (r : Row) (v : RowInvariant n r) where
   -- 1 and 14: what was sent stays sent
@@ -112,25 +113,25 @@ module _ (n : Counts) (r : Row) (v : RowInvariant n r) where
 
   -- what may be offered: abort, or commit with the value computed when all have voted yes
   abbrev Founded : Decision → Type 0
-  Founded decision = outcome_of decision ≡ 1 → Everyone n (r voted_yes) × (value_of decision ≡ r computed) × (0 < r computed)
+  Founded decision = outcome_of (Some decision) ≡ 1 → Everyone n (r voted_yes) × (value_of (Some decision) ≡ r computed) × (0 < r computed)
 
   -- a register that is empty takes the offer, and then nobody has decided yet
   offers_keep : (decision : Decision) (i : ℕ) → Founded decision → Keeps n r (store_fields r (offers decision r (terminates i r)))
   offers_keep decision i founded =
       let grow_terminating = keep (r terminating) i in
-      offer_elim (λ o x. Keeps n r (store_fields r ((outcome, o) ∷ (value, x) ∷ terminates i r))) (r outcome) (r value) decision
+      offer_elim (λ o x. Keeps n r (store_fields r ((outcome, o) ∷ (value, x) ∷ terminates i r))) (r outcome) (r value) (Some decision)
       (λ empty.
       let undecided : (d : ℕ) → T (has (r decided) d) → ⊥ = λ d u. omega (arith, v.decisions.decided_outcome d u) in
       let uncommitted : (d : ℕ) → T (has (r committed) d) → ⊥ = λ d u. undecided d (v.decisions.committed_decided_lem d u) in
-      let outcome_range = outcome_most decision in
-      let commit_yes : outcome_of decision ≡ 1 → Everyone n (r voted_yes) = λ e. (founded e).0 in
-      let commit_value : outcome_of decision ≡ 1 → value_of decision ≡ r computed = λ e. (founded e).1 in
-      let commit_computed : outcome_of decision ≡ 1 → 0 < r computed = λ e. (founded e).2 in
-      let decided_outcome : (d : ℕ) → T (has (r decided) d) → 0 < outcome_of decision = λ d u. absurd (undecided d u) in
-      let committed_outcome : (d : ℕ) → T (has (r committed) d) → outcome_of decision ≡ 1 = λ d u. absurd (uncommitted d u) in
-      let decided_committed : outcome_of decision ≡ 1 → Within (r decided) (r committed) = λ e d u. absurd (undecided d u) in
-      let same_outcome : 0 < r outcome → outcome_of decision ≡ r outcome = λ h. absurd (omega arith) in
-      let same_value : 0 < r outcome → value_of decision ≡ r value = λ h. absurd (omega arith) in
+      let outcome_range = outcome_most (Some decision) in
+      let commit_yes : outcome_of (Some decision) ≡ 1 → Everyone n (r voted_yes) = λ e. (founded e).0 in
+      let commit_value : outcome_of (Some decision) ≡ 1 → value_of (Some decision) ≡ r computed = λ e. (founded e).1 in
+      let commit_computed : outcome_of (Some decision) ≡ 1 → 0 < r computed = λ e. (founded e).2 in
+      let decided_outcome : (d : ℕ) → T (has (r decided) d) → 0 < outcome_of (Some decision) = λ d u. absurd (undecided d u) in
+      let committed_outcome : (d : ℕ) → T (has (r committed) d) → outcome_of (Some decision) ≡ 1 = λ d u. absurd (uncommitted d u) in
+      let decided_committed : outcome_of (Some decision) ≡ 1 → Within (r decided) (r committed) = λ e d u. absurd (undecided d u) in
+      let same_outcome : 0 < r outcome → outcome_of (Some decision) ≡ r outcome = λ h. absurd (omega arith) in
+      let same_value : 0 < r outcome → value_of (Some decision) ≡ r value = λ h. absurd (omega arith) in
       search (v, grows_refl r))
       (λ h. search (v, grows_refl r))
 

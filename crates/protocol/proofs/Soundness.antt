@@ -11,6 +11,7 @@ use Rattle.lists.proofs.Choice.{by_cond, by_both, true_T, every_all, inside_low,
 use Rattle.masks.specs.Mask.{has, with, without, put, all}
 use Rattle.masks.proofs.Laws.{with_below, without_below, put_below, below_all, all_above}
 use Rattle.registers.specs.Register.{outcome_of}
+use Rattle.std.specs.Prelude.{Some}
 use Rattle.registers.specs.declared.Decision.{Decision}
 use Rattle.registers.specs.declared.Decision.TheVariants.{Abort}
 use Rattle.registers.proofs.Laws.{claim_elim, offer_elim}
@@ -104,7 +105,7 @@ module _ (n : Counts) (c k : ℕ) (r : Row) (at : (f : Field) → T (field_exist
 
   offers_fit : (d : Decision) (more : RowWrites) → AllFit n (in_row c k more) → AllFit n (in_row c k (offers d r more))
   offers_fit d more h =
-      offer_elim (λ o w. T (leb o 2)) (r outcome) (r value) d (λ e. le→leb (outcome_of d) 2 (outcome_most d)) (λ h. at outcome tt) and tt and h
+      offer_elim (λ o w. T (leb o 2)) (r outcome) (r value) (Some d) (λ e. le→leb (outcome_of (Some d)) 2 (outcome_most (Some d))) (λ h. at outcome tt) and tt and h
 
   decides_fit : (i d : ℕ) → T (inside n.servers i) → T (inside n.databases d) → AllFit n (in_row c k (decides i d r))
   decides_fit i d y x =

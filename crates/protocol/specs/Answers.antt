@@ -1,14 +1,17 @@
 -- The paper's number for each case of the engine's answer.
-use Rattle.std.specs.Prelude.{ℕ}
-use Rattle.protocol.specs.declared.Answer.{Answer}
-use Rattle.protocol.specs.declared.Answer.TheVariants.{Accepted, WrongSize, OutOfRange, UnknownKind, WrongField, PartyDown, NotSent, MustNot}
+use Rattle.std.specs.Prelude.{ℕ, Result, Ok, Err}
+use Rattle.protocol.specs.declared.Refusal.{Refusal}
+use Rattle.protocol.specs.declared.Refusal.TheVariants.{WrongSize, OutOfRange, UnknownKind, WrongField, PartyDown, NotSent, MustNot}
 
-abbrev pub answer_number : Answer → ℕ
-answer_number Accepted = 0
-answer_number WrongSize = 1
-answer_number OutOfRange = 2
-answer_number UnknownKind = 3
-answer_number WrongField = 4
-answer_number PartyDown = 5
-answer_number NotSent = 6
-answer_number MustNot = 7
+abbrev pub refusal_number : Refusal → ℕ
+refusal_number WrongSize = 1
+refusal_number OutOfRange = 2
+refusal_number UnknownKind = 3
+refusal_number WrongField = 4
+refusal_number PartyDown = 5
+refusal_number NotSent = 6
+refusal_number MustNot = 7
+
+abbrev pub answer_number : Result (Unit {0}) Refusal → ℕ
+answer_number (Ok accepted) = 0
+answer_number (Err refusal) = refusal_number refusal

@@ -3,6 +3,7 @@ pub mod Events
 pub mod Rules
 pub mod Numbers
 pub mod Answers
+pub mod Kinds
 pub mod Machine
 pub mod Agreement
 pub mod Progress

@@ -1,5 +1,5 @@
 -- The 18 rules, in the paper's words and order: when the message was sent, what must hold, and what is written.
-use Rattle.std.specs.Prelude.{Bool, false, not, cond, ◌&&◌, List, [], ◌∷◌, ℕ, suc, eqb, ltb}
+use Rattle.std.specs.Prelude.{Bool, false, not, cond, ◌&&◌, List, [], ◌∷◌, ℕ, suc, Some, eqb, ltb}
 use Rattle.masks.specs.Mask.{has, with, without, put, all, has_all, count}
 use Rattle.registers.specs.Register.{claimed, offered_outcome, offered_value}
 use Rattle.registers.specs.declared.Decision.{Decision}
@@ -44,7 +44,7 @@ verdict D r = cond (eqb (count (r heard_yes)) D) (Commit (r computed)) Abort
 
 -- the register of decisions takes the offer if it is empty, and keeps what it holds if not
 abbrev pub offers : Decision → Row → RowWrites → RowWrites
-offers decision r more = (outcome, offered_outcome (r outcome) decision) ∷ (value, offered_value (r outcome) (r value) decision) ∷ more
+offers decision r more = (outcome, offered_outcome (r outcome) (Some decision)) ∷ (value, offered_value (r outcome) (r value) (Some decision)) ∷ more
 
 -- "the server is terminating"
 abbrev pub terminates : ℕ → Row → RowWrites

@@ -1,105 +1,152 @@
--- What the range check leans on: a loop over ids, the tests of a party by its cells, those of a row in groups, masks seen together, and the rows in a row.
+-- What the range check leans on: what `all` answers over ids and over rows, and masks seen together.
 use mathlib.Core.Path.{◌≡◌, refl, sym, ap, ap₂, ◌∙◌}
-use mathlib.Core.Bool.{Bool, true, false, ◌&&◌, and_assoc, beq, and-true}
+use mathlib.Core.Bool.{Bool, true, false, ◌&&◌, and_assoc, and-true}
 use mathlib.Core.List.{List, [], ◌∷◌, map}
-use Prim.Native.Nat.{ℕ, zero, suc, ◌+◌, ◌-◌, ◌*◌, ◌^◌, ◌≤◌, ◌<◌}
-use native.Mathlib.Nat.{add-sub_cancel_left, mul-le-mul_right, suc-mul}
+use Prim.Native.Nat.{ℕ, zero, suc, ◌≤◌, ◌*◌, ◌/◌, ◌+◌, ◌-◌, ◌^◌, ◌<◌}
 use native.Mathlib.Omega.{arith}
+use native.Mathlib.Nat.{le_of_mul-le-mul_right, mul-div_cancel}
 use lib.Bits.{bit_or, or_lt, or_add_and, and_le_l, and_le_r}
-use lib.Dec.{T, eqb, leb, leb→le, le→leb}
+use lib.Dec.{leb, leb→le, le→leb}
 use lib.Pow.{le_ones, lt_of_le_ones}
-use lib.ListN.{length, get_or, take, drop}
-use Rattle.lists.specs.Tests.{every, each, inside}
+use lib.ListN.{length, get_or, take, drop, length-drop}
+use lib.Seq.{get_or-drop, take-length}
+use denote.Param.Members.{Mut, Called}
+use denote.Ref.{Bor}
+use Rattle.std.specs.Bool.{MatchBool}
+use Rattle.std.specs.List.{fold, slice_get}
+use Rattle.std.specs.Prelude.{Option, Some, IsTrue}
+use Rattle.std.specs.Range.{range_inclusive_start, range_inclusive_end, range_inclusive_exhausted}
+use Rattle.std.specs.declared.ops.RangeInclusive.{RangeInclusive}
+use Rattle.std.specs.Iterator.Runs.{Run, SomeRun, EveryRun, AllItemsGive, AnyItemGives, CallKeepsClosure, IsChunksExactRun}
+use Rattle.std.specs.declared.slice.ChunksExact.{ChunksExact}
+use Rattle.std.specs.Slice.Iter.{chunks_exact_steps, chunks_exact_rest, chunks_exact_size}
+use Rattle.std.proofs.iter.runs.Made.{at-is}
+use Rattle.std.proofs.lemmas.List.{drop-drop, take_rest}
+use Rattle.std.proofs.iter.runs.Sources.{nat_range_inclusive_steps, inclusive_listed}
 use Rattle.lists.specs.Parts.{part}
-use Rattle.lists.proofs.Choice.{by_eq, and_left, and_right, both, T_true, same_answer, every_all, all_every, every_append, each_same, each_fails, each_more, each_grid, in_inside}
+use Rattle.lists.specs.Tests.{every, each, inside}
+use Rattle.lists.proofs.Choice.{in_each, true_T, and_left, and_right, both, T_true, same_answer, each_same, each_fails, each_more, each_grid, in_inside}
+use Rattle.protocol.specs.Cells.{row_of, acked, known}
+use Rattle.protocol.specs.Numbers.{row_tests}
 use Rattle.protocol.specs.declared.Counts.{Counts}
-use Rattle.protocol.specs.Agreement.{Id}
-use Rattle.protocol.specs.Cells.{Row, server_up, database_up, client_up, acked, known, row_of}
-use Rattle.protocol.specs.Numbers.{server_tests, database_tests, client_tests, row_tests}
 use Rattle.masks.specs.Mask.{all}
-use Rattle.table.specs.Layout.{row_length, rows_start, rows_before, row_start, place, table_length}
+use Rattle.table.specs.Layout.{row_length, rows_start, rows_before, row_start, table_length}
 use Rattle.table.specs.Table.{view, row_view}
 use Rattle.table.proofs.Lent.{row_view_lem}
-use Rattle.layout.proofs.Laws.{server_up_cell, suspects_cell, database_up_cell, ready_cell, client_up_cell, phase_cell, attempt_cell}
-use Rattle.ranges.specs.Groups.{number_tests, server_mask_tests, database_mask_tests}
+use Rattle.ranges.specs.Groups.{database_mask_tests}
 
--- ---- a loop over the ids from 1 to n, at the id `i`: the test holds for all before it
+-- ---- what `all` answers, where the closure computes a test and the places are known
 
-pub record Tested (n : ℕ) (p : ℕ → Bool) (i : ℕ) : Type 0 where
-  pub low : 1 ≤ i
-  pub high : i ≤ n + 1
-  pub before : each (i - 1) p ≡ true
+module _ {S A : Type 0} {steps : S → Option A → S → Type 0} where
+  there : (p : Run steps) (k : ℕ) → k < p.len → (x : A) × (p.at k ≡ Some x)
+  there p k h = let (x, is) = got p.items k (omega (arith, p.long)) in (x, at-is p k ∙ is)
+    where
+      got : (xs : List A) (i : ℕ) → i < length xs → (x : A) × (slice_get xs i ≡ Some x)
+      got [] i l = absurd (omega arith)
+      got (x ∷ xs) zero l = (x, refl)
+      got (x ∷ xs) (suc i) l = got xs i (omega arith)
 
-pub first : (n : ℕ) (p : ℕ → Bool) → Tested n p 1
-unfolding each
-first n p = record { low = omega arith; high = omega arith; before = refl }
+  -- m items, of which the one at each place is as the test of the id behind that place
+  abbrev pub Tests : Run steps → ℕ → (A → Bool) → (ℕ → Bool) → Type 0
+  Tests p m value test = (p.len ≤ m) × (p.whole ≡ true → p.len ≡ m) × ((k : ℕ) (x : A) → p.at k ≡ Some x → value x ≡ test (suc k))
 
-each_next : (p : ℕ → Bool) (i : ℕ) → 1 ≤ i → each (i - 1) p ≡ true → p i ≡ true → each (i + 1 - 1) p ≡ true
-unfolding each
-each_next p zero low before here = absurd (omega arith)
-each_next p (suc i) low before here =
-    let e : suc i + 1 - 1 ≡ suc i = omega arith in
-    let d : suc i - 1 ≡ i = omega arith in
-    rw (e, rw d at before, here)
+  pub all_each : {F : Type 0} {g : Mut F (A × Unit {0}) Bool} {s : S} (f : F) (m : ℕ) (value : A → Bool) (test : ℕ → Bool) (r : Bool)
+      → SomeRun steps s (λ p. MatchBool r (IsTrue p.whole × AllItemsGive p g f true) (AnyItemGives p g f false))
+      → ((x : A) (b : Bool) (q : F) → Called g f (x, tt) b q → (q ≡ f) × (b ≡ value x))
+      → ((p : Run steps) → p.from ≡ s → Tests p m value test) → r ≡ each m test
+  all_each {F} {g} f m value test r (p, from, ran) computes tests = decide r ran (tests p from)
+    where
+      kept : CallKeepsClosure g f
+      kept x b q called = (computes x.0 b q called).0
 
-module _ {n : ℕ} {p : ℕ → Bool} {i : ℕ} (tested : Tested n p i) where
-  pub next : i ≤ n → p i ≡ true → Tested n p (i + 1)
-  next h here = record { low = omega arith; high = omega arith; before = each_next p i tested.low tested.before here }
+      decide : (r : Bool) → MatchBool r (IsTrue p.whole × AllItemsGive p g f true) (AnyItemGives p g f false) → Tests p m value test → r ≡ each m test
+      decide true all (most, whole, same) =
+          sym (T_true _ (in_each m test (λ i low high.
+          let (x, is) = there p (i - 1) (omega (arith, whole all.0)) in
+          let called = rw is at (all.1 kept (i - 1)) in
+          let e : suc (i - 1) ≡ i = omega arith in
+          true_T _ (ap test (sym e) ∙ sym (same (i - 1) x is) ∙ sym (computes x true f called).1))))
+      decide false any (most, whole, same) =
+          let (k, inside, fails) = any kept in
+          let (x, is) = there p k inside in
+          let called = rw is at fails in
+          sym (each_fails m test (suc k) (omega arith) (omega (arith, most)) (sym (same k x is) ∙ sym (computes x false f called).1))
 
-  pub whole : n < i → each n p ≡ true
-  whole h = let e : i - 1 ≡ n = omega arith in rw e at tested.before
-
-  pub fails : i ≤ n → p i ≡ false → each n p ≡ false
-  fails h here = each_fails n p i tested.low h here
-
--- ---- the tests of a party, by the cells from its first one on
-
-module _ (n : Counts) (t : List ℕ) (i up : ℕ) where
-  pub server_tests_lem : Id n.servers i → up ≡ place n (server_up i)
-      → every (server_tests n (view n t) i) ≡ every (leb (get_or t up 0) 1 ∷ leb (get_or t (up + 1) 0) (all n.servers) ∷ [])
-  server_tests_lem id e = rw (e, server_up_cell n t i id.0 id.1, suspects_cell n t i id.0 id.1)
-
-  pub database_tests_lem : Id n.databases i → up ≡ place n (database_up i)
-      → every (database_tests n (view n t) i) ≡ every (leb (get_or t up 0) 1 ∷ leb (get_or t (up + 1) 0) 1 ∷ [])
-  database_tests_lem id e = rw (e, database_up_cell n t i id.0 id.1, ready_cell n t i id.0 id.1)
-
-  pub client_tests_lem : Id n.clients i → up ≡ place n (client_up i)
-      → every (client_tests n (view n t) i)
-      ≡ every (
-      leb (get_or t up 0) 1
-      ∷ leb (get_or t (up + 1) 0) 3
-      ∷ leb (get_or t (up + 2) 0) n.attempts
-      ∷ beq (eqb (get_or t (up + 2) 0) 0) (eqb (get_or t (up + 1) 0) 0)
-      ∷ [])
-  client_tests_lem id e = rw (e, client_up_cell n t i id.0 id.1, phase_cell n t i id.0 id.1, attempt_cell n t i id.0 id.1)
-
--- ---- the tests of a row, in three groups
-
-pub row_grouped : (n : Counts) (r : Row)
-    → every (row_tests n r) ≡ every (every (number_tests n r) ∷ every (server_mask_tests n r) ∷ every (database_mask_tests n r) ∷ [])
-row_grouped n r = same_answer (every (row_tests n r)) (every groups) apart together
+-- over the ids from 1 to n
+pub all_ids : {F : Type 0} {g : Mut F (ℕ × Unit {0}) Bool} {s : RangeInclusive ℕ} (f : F) (n : ℕ) (test : ℕ → Bool) (r : Bool)
+    → SomeRun nat_range_inclusive_steps s (λ p. MatchBool r (IsTrue p.whole × AllItemsGive p g f true) (AnyItemGives p g f false))
+    → range_inclusive_start s ≡ 1 → range_inclusive_end s ≡ n → range_inclusive_exhausted s ≡ false
+    → ((i : ℕ) (b : Bool) (q : F) → Called g f (i, tt) b q → (q ≡ f) × (b ≡ test i)) → r ≡ each n test
+all_ids {s = s} f n test r runs low high fresh computes = all_each f n test test r runs computes tests
   where
-    groups : List Bool
-    groups = every (number_tests n r) ∷ every (server_mask_tests n r) ∷ every (database_mask_tests n r) ∷ []
-
-    apart : T (every (row_tests n r)) → T (every groups)
-    apart t =
-        let (owner, (outcome, (sent, (voted, (votedYes, (heard, (heardYes, (written, (terminating, (decided, (committed, (sentAcks, (knownAcks, end))))))))))))) = every_all (row_tests n r) t in
-        all_every groups (
-          all_every (number_tests n r) (owner, (outcome, (written, tt))),
-          (
-            all_every (server_mask_tests n r) (sent, (terminating, tt)),
-            (all_every (database_mask_tests n r) (voted, (votedYes, (heard, (heardYes, (decided, (committed, (sentAcks, (knownAcks, tt)))))))), tt),
-          ),
+    tests : (p : Run nat_range_inclusive_steps) → p.from ≡ s → Tests p n test test
+    tests p from =
+        let (a, b, a_is, b_is, counts) = inclusive_listed p p.seen in
+        let up = (counts (ap range_inclusive_exhausted from ∙ fresh)).0 in
+        let first : a ≡ 1 = a_is ∙ ap range_inclusive_start from ∙ low in
+        let last : b ≡ n + 1 = b_is ∙ ap (λ (t : RangeInclusive ℕ). range_inclusive_end t + 1) from ∙ ap (λ (k : ℕ). k + 1) high in (
+          omega (arith, up.0, first, last),
+          (λ w. omega (arith, up.1 w, first, last)),
+          (λ k x is. let placed = rw is at (up.2 k) in let e : x ≡ suc k = omega (arith, placed.0, first) in ap test e),
         )
 
-    together : T (every groups) → T (every (row_tests n r))
-    together t =
-        let (numbers, (servers, (databases, end))) = every_all groups t in
-        let (owner, (outcome, (written, end))) = every_all (number_tests n r) numbers in
-        let (sent, (terminating, end)) = every_all (server_mask_tests n r) servers in
-        let (voted, (votedYes, (heard, (heardYes, (decided, (committed, (sentAcks, (knownAcks, end)))))))) = every_all (database_mask_tests n r) databases in
-        all_every (row_tests n r) (owner, (outcome, (sent, (voted, (votedYes, (heard, (heardYes, (written, (terminating, (decided, (committed, (sentAcks, (knownAcks, tt)))))))))))))
+-- over the rows, one behind the other
+module _ (n : Counts) (t : List ℕ) (long : length t ≡ table_length n) where
+  -- the tests of a row by its number, counted from 1
+  abbrev row_test : ℕ → Bool
+  row_test i = every (row_tests n (row_view n (part (rows_start n + (i - 1) * row_length n) (row_length n) t)))
+
+  pub rows_inside : rows_start n ≤ length t
+  unfolding table_length
+  rows_inside = omega (arith, long)
+
+  rows_long : length (drop (rows_start n) t) ≡ n.clients * n.attempts * row_length n
+  unfolding table_length
+  rows_long = simp length-drop (omega (arith, long))
+
+  tested : (p : Run chunks_exact_steps) → chunks_exact_size p.from ≡ row_length n → chunks_exact_rest p.from ≡ drop (rows_start n) t
+      → (0 < chunks_exact_size p.from → IsChunksExactRun p (chunks_exact_size p.from) (chunks_exact_rest p.from))
+      → Tests p (n.clients * n.attempts) (λ x. every (row_tests n (row_view n x.now))) row_test
+  tested p width cells runs =
+      let used : 0 < chunks_exact_size p.from = omega (arith, width) in
+      let some : 0 < row_length n = omega arith in
+      let run = rw (width, cells) at (runs used) in (
+        le_of_mul-le-mul_right (rw rows_long at run.0) some,
+        (λ w. run.1 w ∙ ap (λ l. l / row_length n) rows_long ∙ mul-div_cancel (n.clients * n.attempts) some),
+        (λ k x is.
+            let placed = rw is at (run.2 k) in
+            let e : k ≡ suc k - 1 = omega arith in
+            ap (λ l. every (row_tests n (row_view n l)))
+            (placed.2.0 ∙ ap (take (row_length n)) (drop-drop (k * row_length n) (rows_start n) t ∙ ap (λ i. drop (rows_start n + i * row_length n) t) e))),
+      )
+
+  -- the rows by number are those of the clients' attempts
+  rows_are : each (n.clients * n.attempts) row_test ≡ each n.clients (λ c. each n.attempts (λ k. every (row_tests n (row_of (view n t) c k))))
+  unfolding row_start rows_before
+  rows_are =
+      each_grid row_test n.attempts n.clients
+      ∙ each_same n.clients (λ c. each n.attempts (λ k. row_test ((c - 1) * n.attempts + k))) (λ c. each n.attempts (λ k. every (row_tests n (row_of (view n t) c k))))
+      (λ c c_low c_high. each_same n.attempts (λ k. row_test ((c - 1) * n.attempts + k)) (λ k. every (row_tests n (row_of (view n t) c k))) (λ k k_low k_high. row_is c k c_low c_high k_low k_high))
+    where
+      less_one : (a k : ℕ) → 1 ≤ k → a + k - 1 ≡ a + (k - 1)
+      less_one a k h = omega arith
+
+      row_is : (c k : ℕ) → 1 ≤ c → c ≤ n.clients → 1 ≤ k → k ≤ n.attempts → row_test ((c - 1) * n.attempts + k) ≡ every (row_tests n (row_of (view n t) c k))
+      row_is c k c_low c_high k_low k_high =
+          ap (λ (m : ℕ). every (row_tests n (row_view n (part (rows_start n + m * row_length n) (row_length n) t)))) (less_one ((c - 1) * n.attempts) k k_low)
+          ∙ ap (λ r. every (row_tests n r)) (sym (row_view_lem n t c k long (in_inside n.clients c c_low c_high) (in_inside n.attempts k k_low k_high)))
+
+  pub all_rows : {F : Type 0} {g : Mut F (Bor (List ℕ) × Unit {0}) Bool} {s : ChunksExact ℕ} (f : F) (r : Bool) (start : ℕ)
+      → SomeRun chunks_exact_steps s (λ p. MatchBool r (IsTrue p.whole × AllItemsGive p g f true) (AnyItemGives p g f false))
+      → EveryRun (chunks_exact_steps {A = ℕ}) (λ p. 0 < chunks_exact_size p.from → IsChunksExactRun p (chunks_exact_size p.from) (chunks_exact_rest p.from))
+      → start ≡ rows_start n → chunks_exact_rest s ≡ take (length t - start) (drop start t) → chunks_exact_size s ≡ row_length n
+      → ((x : Bor (List ℕ)) (b : Bool) (q : F) → Called g f (x, tt) b q → (q ≡ f) × (b ≡ every (row_tests n (row_view n x.now))))
+      → r ≡ each n.clients (λ c. each n.attempts (λ k. every (row_tests n (row_of (view n t) c k))))
+  all_rows {s = s} f r start runs chunks here cells width computes =
+      let rows : chunks_exact_rest s ≡ drop (rows_start n) t = cells ∙ take_rest t start ∙ ap (λ a. drop a t) here in
+      all_each f (n.clients * n.attempts) (λ x. every (row_tests n (row_view n x.now))) row_test r runs computes
+      (λ p from. tested p (ap chunks_exact_size from ∙ width) (ap chunks_exact_rest from ∙ rows) (chunks p p.seen))
+      ∙ rows_are
 
 -- ---- masks, by what stands in any of them
 
@@ -116,43 +163,24 @@ or_fits d a b = same_answer (leb (bit_or a b) most) (leb a most && leb b most)
     most = 2 ^ d - 1
 
 -- a mask and those that follow it
-abbrev joined : ℕ → List ℕ → ℕ
-joined mask [] = mask
-joined mask (next ∷ masks) = joined (bit_or mask next) masks
-
-pub joined_fit : (d mask : ℕ) (masks : List ℕ) → leb (joined mask masks) (all d) ≡ every (map (λ m. leb m (all d)) (mask ∷ masks))
+pub joined_fit : (d mask : ℕ) (masks : List ℕ) → leb (fold bit_or mask masks) (all d) ≡ every (map (λ m. leb m (all d)) (mask ∷ masks))
 joined_fit d mask [] = sym (and-true (leb mask (all d)))
 joined_fit d mask (next ∷ masks) =
     joined_fit d (bit_or mask next) masks
     ∙ ap (λ b. b && every (map (λ m. leb m (all d)) masks)) (or_fits d mask next)
     ∙ and_assoc (leb mask (all d)) (leb next (all d)) (every (map (λ m. leb m (all d)) masks))
 
--- a loop over the masks of acknowledgements, at the cell `at`, that started with what was seen in the fixed masks
-pub record Seen (l : List ℕ) (d fixed at seen : ℕ) : Type 0 where
-  pub low : 13 ≤ at
-  pub high : at ≤ length l
-  pub fit : leb seen (all d) ≡ (leb fixed (all d) && each (at - 13) (λ i. leb (get_or l (12 + i) 0) (all d)))
-
-pub seen_first : (l : List ℕ) (d fixed : ℕ) → 13 ≤ length l → Seen l d fixed 13 fixed
+-- tests of a list, by place
+every_each : (p : ℕ → Bool) (l : List ℕ) → every (map p l) ≡ each (length l) (λ i. p (get_or l (i - 1) 0))
 unfolding each
-seen_first l d fixed h = record { low = omega arith; high = h; fit = sym (and-true (leb fixed (all d))) }
+every_each p [] = refl
+every_each p (x ∷ l) =
+    let e : suc (length l) ≡ 1 + length l = omega arith in
+    ap (λ b. p x && b) (every_each p l ∙ each_same (length l) (λ i. p (get_or l (i - 1) 0)) (λ i. p (get_or (x ∷ l) (1 + i - 1) 0)) (λ i low high. let f : 1 + i - 1 ≡ suc (i - 1) = omega arith in rw f))
+    ∙ sym (ap (λ m. each m (λ i. p (get_or (x ∷ l) (i - 1) 0))) e ∙ each_more (λ i. p (get_or (x ∷ l) (i - 1) 0)) 1 (length l))
 
-pub seen_next : {l : List ℕ} (d : ℕ) {fixed at seen : ℕ} → Seen l d fixed at seen → at < length l → Seen l d fixed (at + 1) (bit_or seen (get_or l at 0))
-unfolding each
-seen_next {l} d {fixed} {at} {seen} so h =
-    let e : at + 1 - 13 ≡ suc (at - 13) = omega (arith, so.low) in
-    let f : 12 + suc (at - 13) ≡ at = omega (arith, so.low) in
-    record {
-      low = omega (arith, so.low);
-      high = omega arith;
-      fit =
-          or_fits d seen (get_or l at 0)
-          ∙ ap (λ b. b && leb (get_or l at 0) (all d)) so.fit
-          ∙ rw (e, f) (and_assoc (leb fixed (all d)) (each (at - 13) (λ i. leb (get_or l (12 + i) 0) (all d))) (leb (get_or l at 0) (all d)));
-    }
-
-module _ (n : Counts) (l : List ℕ) where
-  abbrev pub fits : ℕ → Bool
+module _ (n : Counts) (l : List ℕ) (long : length l ≡ row_length n) where
+  abbrev fits : ℕ → Bool
   fits i = leb (get_or l i 0) (all n.databases)
 
   abbrev acked_fit : Bool
@@ -162,102 +190,25 @@ module _ (n : Counts) (l : List ℕ) where
   known_fit = each n.servers (λ i. leb (row_view n l (known i)) (all n.databases))
 
   -- those sent to the servers, then those that they know
-  acknowledgements : each (n.servers + n.servers) (λ i. fits (12 + i)) ≡ (acked_fit && known_fit)
+  acknowledgements : every (map (λ m. leb m (all n.databases)) (drop 13 l)) ≡ (acked_fit && known_fit)
   acknowledgements =
-      each_more (λ i. fits (12 + i)) n.servers n.servers
+      let many : length (drop 13 l) ≡ n.servers + n.servers = simp length-drop (omega arith) in
+      every_each (λ m. leb m (all n.databases)) (drop 13 l)
+      ∙ ap (λ m. each m (λ i. leb (get_or (drop 13 l) (i - 1) 0) (all n.databases))) many
+      ∙ each_more (λ i. leb (get_or (drop 13 l) (i - 1) 0) (all n.databases)) n.servers n.servers
       ∙ ap₂ (λ a b. a && b)
-      (each_same n.servers (λ i. fits (12 + i)) (λ i. leb (row_view n l (acked i)) (all n.databases))
-      (λ i low high. rw (T_true (inside n.servers i) (in_inside n.servers i low high))))
-      (each_same n.servers (λ i. fits (12 + (n.servers + i))) (λ i. leb (row_view n l (known i)) (all n.databases))
-      (λ i low high.
-      let e : 12 + (n.servers + i) ≡ 12 + n.servers + i = omega arith in
-      rw (T_true (inside n.servers i) (in_inside n.servers i low high), e)))
+      (each_same n.servers _ _ (λ i low high.
+      let e : 13 + (i - 1) ≡ 12 + i = omega arith in
+      rw (T_true (inside n.servers i) (in_inside n.servers i low high), get_or-drop 13 l (i - 1) 0, e)))
+      (each_same n.servers _ _ (λ i low high.
+      let e : 13 + (n.servers + i - 1) ≡ 12 + n.servers + i = omega arith in
+      rw (T_true (inside n.servers i) (in_inside n.servers i low high), get_or-drop 13 l (n.servers + i - 1) 0, e)))
 
-  pub seen_whole : {at seen : ℕ} (fixed : ℕ) → Seen l n.databases fixed at seen → length l ≤ at → length l ≡ row_length n
-      → leb fixed (all n.databases) ≡ every (fits 5 ∷ fits 6 ∷ fits 7 ∷ fits 8 ∷ fits 11 ∷ fits 12 ∷ [])
-      → leb seen (all n.databases) ≡ every (database_mask_tests n (row_view n l))
-  seen_whole {at} fixed so h long first =
-      let e : at - 13 ≡ n.servers + n.servers = omega (arith, so.high) in
-      so.fit
-      ∙ ap (λ m. leb fixed (all n.databases) && each m (λ i. fits (12 + i))) e
-      ∙ ap₂ (λ a b. a && b) first (acknowledgements ∙ ap (λ b. acked_fit && b) (sym (and-true known_fit)))
-      ∙ sym (every_append (fits 5 ∷ fits 6 ∷ fits 7 ∷ fits 8 ∷ fits 11 ∷ fits 12 ∷ []) (acked_fit ∷ known_fit ∷ []))
-
--- ---- the rows, one behind the other
-
-module _ (n : Counts) (t : List ℕ) where
-  -- the tests of a row by its number, counted from 1
-  abbrev pub row_test : ℕ → Bool
-  row_test i = every (row_tests n (row_view n (part (rows_start n + (i - 1) * row_length n) (row_length n) t)))
-
-  -- a loop over them, where the next row starts: the tests hold for all rows before
-  pub record Reached (start : ℕ) : Type 0 where
-    pub rows : ℕ
-    pub at : start ≡ rows_start n + rows * row_length n
-    pub most : rows ≤ n.clients * n.attempts
-    pub before : each rows row_test ≡ true
-
-  pub reached_first : (start : ℕ) → start ≡ row_start n 1 1 → Reached start
-  unfolding row_start rows_before each
-  reached_first start is =
-      let e : (1 - 1) * n.attempts + (1 - 1) ≡ 0 = omega arith in
-      record { rows = 0; at = is ∙ ap (λ m. rows_start n + m * row_length n) e; most = omega arith; before = refl }
-
-  module _ {start : ℕ} (so : Reached start) (long : length t ≡ table_length n) where
-    -- a start before the end is that of a row
-    another : start < length t → so.rows < n.clients * n.attempts
-    unfolding table_length
-    another h =
-        by_eq so.rows (n.clients * n.attempts)
-        (λ e. absurd (omega (arith, long, so.at ∙ ap (λ m. rows_start n + m * row_length n) e)))
-        (λ ne. omega (arith, so.most, ne))
-
-    row_ends : so.rows < n.clients * n.attempts → start + row_length n ≤ table_length n
-    unfolding table_length
-    row_ends h = omega (arith, so.at, suc-mul so.rows (row_length n), mul-le-mul_right (row_length n) h)
-
-    pub row_inside : start < length t → start + row_length n ≤ length t
-    row_inside h = omega (arith, long, row_ends (another h))
-
-    -- the row lent from there is the next one
-    row_here : (width : ℕ) → width ≡ row_length n → every (row_tests n (row_view n (take (start + width - start) (drop start t)))) ≡ row_test (suc so.rows)
-    row_here width w =
-        let e : suc so.rows - 1 ≡ so.rows = omega arith in
-        ap (λ m. every (row_tests n (row_view n (part start m t)))) (add-sub_cancel_left start width ∙ w)
-        ∙ rw e (ap (λ a. every (row_tests n (row_view n (part a (row_length n) t)))) so.at)
-
-    module _ (width : ℕ) (w : width ≡ row_length n) (h : start < length t) where
-      pub reached_next : every (row_tests n (row_view n (take (start + width - start) (drop start t)))) ≡ true → Reached (start + width)
-      unfolding each
-      reached_next fits = record {
-        rows = suc so.rows;
-        at = omega (arith, so.at, suc-mul so.rows (row_length n), w);
-        most = another h;
-        before = rw so.before (sym (row_here width w) ∙ fits);
-      }
-
-      pub reached_fails : every (row_tests n (row_view n (take (start + width - start) (drop start t)))) ≡ false → each (n.clients * n.attempts) row_test ≡ false
-      reached_fails fails = each_fails (n.clients * n.attempts) row_test (suc so.rows) (omega arith) (another h) (sym (row_here width w) ∙ fails)
-
-    pub reached_whole : length t ≤ start → each (n.clients * n.attempts) row_test ≡ true
-    reached_whole h =
-        by_eq so.rows (n.clients * n.attempts)
-        (λ e. ap (λ m. each m row_test) (sym e) ∙ so.before)
-        (λ ne. absurd (omega (arith, long, row_ends (omega (arith, so.most, ne)))))
-
--- the rows by number are those of the clients' attempts
-pub rows_are : (n : Counts) (t : List ℕ) → length t ≡ table_length n
-    → each (n.clients * n.attempts) (row_test n t) ≡ each n.clients (λ c. each n.attempts (λ k. every (row_tests n (row_of (view n t) c k))))
-unfolding row_start rows_before
-rows_are n t long =
-    each_grid (row_test n t) n.attempts n.clients
-    ∙ each_same n.clients (λ c. each n.attempts (λ k. row_test n t ((c - 1) * n.attempts + k))) (λ c. each n.attempts (λ k. every (row_tests n (row_of (view n t) c k))))
-    (λ c c1 cC. each_same n.attempts (λ k. row_test n t ((c - 1) * n.attempts + k)) (λ k. every (row_tests n (row_of (view n t) c k))) (λ k k1 kN. row_is c k c1 cC k1 kN))
-  where
-    less_one : (a k : ℕ) → 1 ≤ k → a + k - 1 ≡ a + (k - 1)
-    less_one a k h = omega arith
-
-    row_is : (c k : ℕ) → 1 ≤ c → c ≤ n.clients → 1 ≤ k → k ≤ n.attempts → row_test n t ((c - 1) * n.attempts + k) ≡ every (row_tests n (row_of (view n t) c k))
-    row_is c k c1 cC k1 kN =
-        ap (λ (m : ℕ). every (row_tests n (row_view n (part (rows_start n + m * row_length n) (row_length n) t)))) (less_one ((c - 1) * n.attempts) k k1)
-        ∙ ap (λ r. every (row_tests n r)) (sym (row_view_lem n t c k long (in_inside n.clients c c1 cC) (in_inside n.attempts k k1 kN)))
+  -- as the code joins them, those of the row's end lent by themselves
+  pub database_masks_lem : (fixed : ℕ) → fixed ≡ fold bit_or (get_or l 5 0) (get_or l 6 0 ∷ get_or l 7 0 ∷ get_or l 8 0 ∷ get_or l 11 0 ∷ get_or l 12 0 ∷ [])
+      → leb (fold bit_or fixed (take (length l - 13) (drop 13 l))) (all n.databases) ≡ every (database_mask_tests n (row_view n l))
+  database_masks_lem fixed is =
+      let rest : take (length l - 13) (drop 13 l) ≡ drop 13 l = ap (λ m. take m (drop 13 l)) (sym (length-drop 13 l)) ∙ take-length (drop 13 l) in
+      rw (is, rest)
+      (joined_fit n.databases (get_or l 5 0) (get_or l 6 0 ∷ get_or l 7 0 ∷ get_or l 8 0 ∷ get_or l 11 0 ∷ get_or l 12 0 ∷ drop 13 l)
+      ∙ rw (acknowledgements, and-true known_fit))

@@ -2,15 +2,11 @@
 use Rattle.std.specs.Prelude.{◌≡◌, cond, not, List, [], ◌∷◌, ℕ, ◌≤◌, eqb, ltb, length}
 use Rattle.lists.specs.Tests.{every}
 use Rattle.masks.specs.Mask.{has, with, put, has_all}
-use Rattle.registers.specs.Register.{holding}
-use Rattle.registers.specs.declared.Decision.{Decision}
-use Rattle.registers.specs.declared.Decision.TheVariants.{None}
-use Rattle.registers.specs.declared.Offered.{Offered}
 use Rattle.protocol.specs.declared.Counts.{Counts}
 use Rattle.protocol.specs.Cells.{outcome, decided, committed, acked, known, Row, RowWrites}
-use Rattle.protocol.specs.Rules.{RowRule, offers}
+use Rattle.protocol.specs.Rules.{RowRule}
 use Rattle.table.specs.Layout.{row_length}
-use Rattle.table.specs.Table.{set_fields, row_view}
+use Rattle.table.specs.Table.{set_fields}
 use Rattle.table.specs.Jobs.{Done}
 use Rattle.gates.specs.Gates.{given}
 
@@ -23,11 +19,6 @@ pub record Lent (n : Counts) (l : List ℕ) : Type 0 where
 -- the number that a rule gives, and the lent cells after it
 abbrev pub stepped : Counts → List ℕ → RowRule → Done
 stepped n l rule = record { number = given rule; cells = cond (eqb (given rule) 0) (set_fields n l rule.writes) l }
-
--- what an offer to the row's register of decisions leaves, and that whoever offered a decision goes on with one
-pub record Offers (before : List ℕ) (decision : Decision) (answer : Offered) (after : List ℕ) : Type 0 where
-  pub cells : (n : Counts) → after ≡ set_fields n before (offers decision (row_view n before) [])
-  pub holds : (decision ≡ None → ⊥) → holding answer ≡ None → ⊥
 
 -- the two parts of a decision's arrival: the database decides, and its acknowledgement is sent
 abbrev pub obeys : ℕ → Row → RowWrites

@@ -1,23 +1,25 @@
-// The rules that ask and write the row of one result alone, over the row's part of the table, lent by itself.
+// The rules that ask and write the row of one result alone, over the row's part of the table, lent by itself as cells beside the counts (`Lent`).
+// Each rule is called at one place, with the numbers of an event, so what it asks of them stands at the rule and in no type.
 #![tactic(auto)]
 
-ghost use Rattle.std.specs.Prelude.{◌≡◌, false, not, ◌&&◌, [], ◌∷◌, ◌≤◌, length};
+ghost use Rattle.std.specs.Prelude.{◌≡◌, false, not, ◌&&◌, [], ◌∷◌, ◌≤◌, Some, length};
 ghost use Rattle.masks.specs.Mask.{all};
-ghost use Rattle.registers.specs.declared.Decision.TheVariants.{None, Abort};
+ghost use Rattle.registers.specs.Register.{held};
+ghost use Rattle.registers.specs.declared.Decision.TheVariants.{Abort};
 ghost use Rattle.protocol.specs.declared.Counts.{Counts as Setup};
-ghost use Rattle.protocol.specs.Cells.{owner, sent, acked, known, written};
+ghost use Rattle.protocol.specs.Cells.{owner, outcome, value, sent, acked, known, written};
 ghost use Rattle.protocol.specs.Rules.{calls, claims, votes, hears, offers, terminates, request_rule, compute_rule, prepare_rule, vote_rule, ready_rule, write_rule, clean_rule, decide_rule, ack_rule};
 ghost use Rattle.protocol.specs.Answers.{answer_number};
 ghost use Rattle.table.specs.Layout.{slot};
 ghost use Rattle.table.specs.Table.{set_fields, row_view};
-ghost use Rattle.rows.specs.Rows.{Lent, Offers, obeys, acknowledges, stepped, result_given};
+ghost use Rattle.rows.specs.Rows.{Lent, obeys, acknowledges, stepped, result_given};
 
 use gates::{
-    COMMITTED, COMPUTED, DECIDED, HEARD, HEARD_YES, OUTCOME, OWNER, SENT, TERMINATING, VALUE,
+    COMMITTED, COMPUTED, DECIDED, HEARD, HEARD_YES, OUTCOME, OWNER, Row, SENT, TERMINATING, VALUE,
     VOTED, VOTED_YES, WRITTEN,
 };
 use protocol::{Answer, Counts};
-use registers::{Decision, Offered};
+use registers::Decision;
 
 // ---- where the acknowledgements lie, behind the fixed cells
 
@@ -52,14 +54,15 @@ fn claim(row: &mut [u16], server: u16)
     requires { 13 ≤ length row.old }
     ensures { (n : Setup) → row.new ≡ set_fields n row.old (claims server (row_view n row.old)) }
 {
-    registers::claim(&mut row[OWNER..OUTCOME], server);
+    // whoever owns it then, the rule asks no more
+    let _ = registers::claim(&mut row[OWNER..OUTCOME], server);
 }
 
 // What a database says in its vote: no if it has already decided.
 fn says(yes: bool, decided: bool) -> bool
     ensures { result ≡ (yes && not decided) }
 {
-    if decided { false } else { yes }
+    yes && !decided
 }
 
 // A database that has not voted votes.
@@ -89,29 +92,24 @@ fn hear(row: &mut [u16], listening: bool, database: u16, yes: bool)
     }
 }
 
-// The register of decisions is offered one.
-fn offer(row: &mut [u16], decision: Decision) -> Offered
-    requires { 13 ≤ length row.old }
-    ensures { Offers row.old decision result row.new }
-{
-    registers::offer(&mut row[OUTCOME..COMPUTED], decision)
-}
-
-// The server terminates the result with a decision in hand.
-fn terminate(row: &mut [u16], server: u16, decision: Decision)
+// The server terminates the result with a decision in hand, whichever it is.
+fn terminate(row: &mut [u16], server: u16, _in_hand: Decision)
     requires fixed_cells { 13 ≤ length row.old }
     requires server_in_mask { (1 ≤ server) × (server ≤ 16) }
-    requires in_hand { decision ≡ None → ⊥ }
     ensures { (n : Setup) → row.new ≡ set_fields n row.old (terminates server (row_view n row.old)) }
 {
-    match decision {
-        Decision::None => {}
-        Decision::Commit(_) => {
-            row[TERMINATING] = masks::with(row[TERMINATING], server);
-        }
-        Decision::Abort => {
-            row[TERMINATING] = masks::with(row[TERMINATING], server);
-        }
+    row[TERMINATING] = masks::with(row[TERMINATING], server);
+}
+
+// A decision is offered to the register of decisions, and answered is the one to go on with: this one where it was taken, or what was held.
+fn offer(row: &mut [u16], decision: Decision) -> Decision
+    requires { 13 ≤ length row.old }
+    ensures cells { (n : Setup) → row.new ≡ set_fields n row.old (offers decision (row_view n row.old) []) }
+    ensures in_hand { (n : Setup) → Some result ≡ held (row_view n row.new outcome) (row_view n row.new value) }
+{
+    match registers::offer(&mut row[OUTCOME..COMPUTED], Some(decision)) {
+        Ok(_) => decision,
+        Err(held) => held,
     }
 }
 
@@ -119,15 +117,11 @@ fn terminate(row: &mut [u16], server: u16, decision: Decision)
 fn settle(row: &mut [u16], server: u16, decision: Decision)
     requires fixed_cells { 13 ≤ length row.old }
     requires server_in_mask { (1 ≤ server) × (server ≤ 16) }
-    requires in_hand { decision ≡ None → ⊥ }
     ensures { (n : Setup) → row.new ≡ set_fields n row.old (offers decision (row_view n row.old) ((written, 1) ∷ terminates server (row_view n row.old))) }
 {
-    let offered = offer(row, decision);
+    let in_hand = offer(row, decision);
     row[WRITTEN] = 1;
-    match offered {
-        Offered::Took(taken) => terminate(row, server, taken),
-        Offered::Held(held) => terminate(row, server, held),
-    }
+    terminate(row, server, in_hand);
 }
 
 // A cleaner offers abort, and goes on with what the register then holds: it may hold commit already.
@@ -136,11 +130,8 @@ fn sweep(row: &mut [u16], server: u16)
     requires server_in_mask { (1 ≤ server) × (server ≤ 16) }
     ensures { (n : Setup) → row.new ≡ set_fields n row.old (offers Abort (row_view n row.old) (terminates server (row_view n row.old))) }
 {
-    let offered = offer(row, Decision::Abort);
-    match offered {
-        Offered::Took(taken) => terminate(row, server, taken),
-        Offered::Held(held) => terminate(row, server, held),
-    }
+    let in_hand = offer(row, Decision::Abort);
+    terminate(row, server, in_hand);
 }
 
 // An undecided database decides by the outcome.
@@ -175,11 +166,9 @@ pub fn request(row: &mut [u16], counts: Counts, server: u16) -> Answer
     requires server_there { (1 ≤ server) × (server ≤ counts.servers) }
     ensures { record { number = answer_number result; cells = row.new } ≡ stepped counts row.old (request_rule server (row_view counts row.old)) }
 {
-    let answer = gates::request(gates::load(&row[..]), server);
-    if gates::is_accepted(answer) {
-        claim(row, server);
-    }
-    answer
+    Row::load(&row[..]).request(server)?;
+    claim(row, server);
+    Ok(())
 }
 
 // 4. The owner computes.
@@ -187,11 +176,9 @@ pub fn compute(row: &mut [u16], counts: Counts, server: u16, value: u16) -> Answ
     requires { Lent counts row.old }
     ensures { record { number = answer_number result; cells = row.new } ≡ stepped counts row.old (compute_rule server value (row_view counts row.old)) }
 {
-    let answer = gates::compute(gates::load(&row[..]), server, value);
-    if gates::is_accepted(answer) {
-        row[COMPUTED] = value;
-    }
-    answer
+    Row::load(&row[..]).compute(server, value)?;
+    row[COMPUTED] = value;
+    Ok(())
 }
 
 // 5. A prepare arrives.
@@ -200,11 +187,9 @@ pub fn prepare(row: &mut [u16], counts: Counts, database: u16, value: u16) -> An
     requires database_there { (1 ≤ database) × (database ≤ counts.databases) }
     ensures { record { number = answer_number result; cells = row.new } ≡ stepped counts row.old (prepare_rule database value (row_view counts row.old)) }
 {
-    let answer = gates::prepare(gates::load(&row[..]), database, value);
-    if gates::is_accepted(answer) {
-        cast(row, database, value == 1);
-    }
-    answer
+    Row::load(&row[..]).prepare(database, value)?;
+    cast(row, database, value == 1);
+    Ok(())
 }
 
 // 6. A vote arrives.
@@ -213,18 +198,11 @@ pub fn vote(row: &mut [u16], counts: Counts, server: u16, database: u16) -> Answ
     requires database_there { (1 ≤ database) × (database ≤ counts.databases) }
     ensures { record { number = answer_number result; cells = row.new } ≡ stepped counts row.old (vote_rule server database (row_view counts row.old)) }
 {
-    let cells = gates::load(&row[..]);
-    let answer = gates::vote(cells, server, database);
-    if gates::is_accepted(answer) {
-        let listening = gates::listens(cells, database);
-        hear(
-            row,
-            listening,
-            database,
-            masks::has(cells.voted_yes, database),
-        );
-    }
-    answer
+    let cells = Row::load(&row[..]);
+    cells.vote(server, database)?;
+    let yes = masks::has(cells.voted_yes, database);
+    hear(row, cells.listens(database), database, yes);
+    Ok(())
 }
 
 // 7. A ready arrives.
@@ -233,13 +211,11 @@ pub fn hear_ready(row: &mut [u16], counts: Counts, server: u16, database: u16, r
     requires database_there { (1 ≤ database) × (database ≤ counts.databases) }
     ensures { record { number = answer_number result; cells = row.new } ≡ stepped counts row.old (ready_rule server database ready (row_view counts row.old)) }
 {
-    let cells = gates::load(&row[..]);
-    let answer = gates::ready(cells, server, database, ready);
-    if gates::is_accepted(answer) {
-        let listening = gates::owner_listens(cells, server, database);
-        hear(row, listening, database, false);
-    }
-    answer
+    let cells = Row::load(&row[..]);
+    cells.ready(server, database, ready)?;
+    let listening = cells.owner_listens(server, database);
+    hear(row, listening, database, false);
+    Ok(())
 }
 
 // 8. The owner writes its verdict.
@@ -248,12 +224,10 @@ pub fn write(row: &mut [u16], counts: Counts, server: u16) -> Answer
     requires server_there { (1 ≤ server) × (server ≤ counts.servers) }
     ensures { record { number = answer_number result; cells = row.new } ≡ stepped counts row.old (write_rule counts.databases server (row_view counts row.old)) }
 {
-    let cells = gates::load(&row[..]);
-    let answer = gates::write(cells, counts.databases, server);
-    if gates::is_accepted(answer) {
-        settle(row, server, gates::verdict(cells, counts.databases));
-    }
-    answer
+    let cells = Row::load(&row[..]);
+    cells.write(counts.databases, server)?;
+    settle(row, server, cells.verdict(counts.databases));
+    Ok(())
 }
 
 // 11. Another server cleans.
@@ -263,11 +237,9 @@ pub fn clean(row: &mut [u16], counts: Counts, server: u16, suspected: u16) -> An
     requires owner_in_mask { row_view counts row.old owner ≤ 16 }
     ensures { record { number = answer_number result; cells = row.new } ≡ stepped counts row.old (clean_rule server suspected (row_view counts row.old)) }
 {
-    let answer = gates::clean(gates::load(&row[..]), server, suspected);
-    if gates::is_accepted(answer) {
-        sweep(row, server);
-    }
-    answer
+    Row::load(&row[..]).clean(server, suspected)?;
+    sweep(row, server);
+    Ok(())
 }
 
 // 12. A decision arrives.
@@ -277,12 +249,10 @@ pub fn decide(row: &mut [u16], counts: Counts, server: u16, database: u16) -> An
     requires database_there { (1 ≤ database) × (database ≤ counts.databases) }
     ensures { record { number = answer_number result; cells = row.new } ≡ stepped counts row.old (decide_rule server database (row_view counts row.old)) }
 {
-    let answer = gates::decide(gates::load(&row[..]), server, database);
-    if gates::is_accepted(answer) {
-        obey(row, database);
-        acknowledge(row, counts, server, database);
-    }
-    answer
+    Row::load(&row[..]).decide(server, database)?;
+    obey(row, database);
+    acknowledge(row, counts, server, database);
+    Ok(())
 }
 
 // 13. An acknowledgement arrives.
@@ -293,12 +263,10 @@ pub fn ack(row: &mut [u16], counts: Counts, server: u16, database: u16) -> Answe
     ensures { record { number = answer_number result; cells = row.new } ≡ stepped counts row.old (ack_rule server database (row_view counts row.old)) }
 {
     let sent = acked_at(server);
-    if !masks::has(row[sent], database) {
-        return Answer::NotSent;
-    }
+    gates::sent_if(masks::has(row[sent], database))?;
     let known = known_at(counts, server);
     row[known] = masks::with(row[known], database);
-    Answer::Accepted
+    Ok(())
 }
 
 // 14, what it asks of the row: sent if outcome is not 0 and the sender knows all D acknowledgements.
@@ -307,16 +275,10 @@ pub fn result(row: &[u16], counts: Counts, server: u16) -> Answer
     requires server_there { (1 ≤ server) × (server ≤ counts.servers) }
     ensures { answer_number result ≡ result_given counts server (row_view counts row.now) }
 {
-    let decision = registers::read(row[OUTCOME], row[VALUE]);
     let known = known_at(counts, server);
-    if !masks::has_all(row[known], counts.databases) {
-        return Answer::NotSent;
-    }
-    match decision {
-        Decision::None => Answer::NotSent,
-        Decision::Commit(_) => Answer::Accepted,
-        Decision::Abort => Answer::Accepted,
-    }
+    let decided = registers::read(row[OUTCOME], row[VALUE]).is_some();
+    let all_known = masks::has_all(row[known], counts.databases);
+    gates::sent_if(decided && all_known)
 }
 
 // The request is sent to every server.

@@ -1,27 +1,29 @@
 -- Room for the cells that a rule reads and writes, and the rules' writes to the parties' cells and to a lent row.
 use mathlib.Core.Path.{◌≡◌, refl, sym, ap, ap₂, ◌∙◌, subst}
-use mathlib.Core.Bool.{Bool, true, false, not, cond, false≢true}
+use mathlib.Core.Bool.{Bool, true, false, not, cond, ◌&&◌, false≢true}
 use mathlib.Core.List.{List, [], ◌∷◌}
-use Prim.Native.Nat.{ℕ, suc, ◌+◌, ◌≤◌}
+use Prim.Native.Nat.{ℕ, suc, ◌+◌, ◌-◌, ◌*◌, ◌<◌, ◌≤◌}
 use native.Mathlib.Numerals.{add-one}
 use native.Mathlib.Omega.{arith}
 use borrow.Author.Tests.{ne_eqb}
-use lib.Dec.{T, eqb, ltb, eqb→eq, eqb-suc-zero, leb→le, eqb_refl, T_not}
-use lib.ListN.{length, get_or, set}
+use lib.Dec.{T, eqb, ltb, eqb→eq, leb→le, eqb_refl, T_not}
+use lib.ListN.{length, get_or, set, length-set}
 use Rattle.lists.specs.Tests.{every, All, inside}
 use Rattle.lists.specs.Parts.{part, put_back}
 use Rattle.lists.proofs.Parts.{put_back_part}
-use Rattle.lists.proofs.Choice.{by_cond, by_eq, inside_low, inside_high, every_all, true_T, in_inside}
+use Rattle.lists.proofs.Choice.{by_cond, by_both, by_eq, inside_low, inside_high, every_all, true_T, in_inside}
 use Rattle.masks.specs.Mask.{has_all}
 use Rattle.registers.specs.Register.{held}
 use Rattle.registers.specs.declared.Decision.{Decision}
-use Rattle.registers.specs.declared.Decision.TheVariants.{None, Commit, Abort}
+use Rattle.registers.specs.declared.Decision.TheVariants.{Commit, Abort}
+use Rattle.std.specs.Prelude.{Option, None, Some, Result, IsErrAnd}
 use Rattle.registers.proofs.Laws.{none_held, commit_held, abort_held}
-use Rattle.protocol.specs.declared.Answer.{Answer}
+use Rattle.protocol.specs.declared.Refusal.{Refusal}
+use Rattle.protocol.proofs.Answers.{not_accepted, passed_on}
 use Rattle.protocol.specs.declared.Counts.{Counts}
-use Rattle.protocol.specs.Answers.{answer_number}
+use Rattle.protocol.specs.Answers.{refusal_number, answer_number}
 use Rattle.protocol.specs.declared.Event.{Event}
-use Rattle.protocol.specs.Cells.{Field, Name, row, owner, outcome, value, known, exists, server_up, suspects, database_up, ready, client_up, phase, attempt, request, delivered}
+use Rattle.protocol.specs.Cells.{Field, Name, row, owner, outcome, value, known, exists, server_up, database_up, client_up, phase, attempt, request, delivered}
 use Rattle.protocol.specs.Cells.{Row, row_of, store_all, Writes, RowWrites, in_row}
 use Rattle.protocol.specs.Events.{kind_of}
 use Rattle.protocol.specs.Numbers.{fields, field_tests, in_range}
@@ -37,7 +39,8 @@ use Rattle.layout.specs.Ranged.{Ranged}
 use Rattle.layout.proofs.Laws.{ranged_tests, server_inside, database_inside, client_inside, view_cell, phase_place, attempt_place, request_place, delivered_place}
 use Rattle.gates.specs.Gates.{given}
 use Rattle.rows.specs.Rows.{stepped, result_given}
-use Rattle.rules.specs.Rules.{rule_number, ruled, of_row, row_rule}
+use Rattle.std.proofs.Common.{Fits, w64}
+use Rattle.rules.specs.Rules.{Held, rule_number, ruled, of_row, row_rule, Follows}
 
 -- ---- room
 
@@ -63,14 +66,62 @@ module _ (n : Counts) (t : List ℕ) (long : length t ≡ table_length n) (range
   pub row_room : (c k : ℕ) → T (inside n.clients c) → T (inside n.attempts k) → (row_start n c k + row_length n ≤ length t) × (length t ≤ 3788)
   row_room c k x y = (omega (arith, row_end n c k x y), room)
 
--- ---- a rule that did not hold, and one that did
+-- what the check asks of a cell that code reads or writes at a place counted from where a party's cells start
+
+pub client_sum : (n : Counts) (t : List ℕ) (c at k : ℕ) → Held n t → T (inside n.clients c) → at ≡ place n (client_up c) → k < 5 → Fits w64 (at + k)
+client_sum n t c at k sound x e low = omega (arith, client_room n t sound.long sound.ranged c x, e, low)
+
+pub client_offset : (n : Counts) (t : List ℕ) (c at k : ℕ) → Held n t → T (inside n.clients c) → at ≡ place n (client_up c) → k < 5 → Fits w64 ((at + k) * 2)
+client_offset n t c at k sound x e low = omega (arith, client_room n t sound.long sound.ranged c x, e, low)
+
+pub client_cell : (n : Counts) (t u : List ℕ) (c at k : ℕ) → Held n t → T (inside n.clients c) → at ≡ place n (client_up c) → k < 5 → length u ≡ length t
+    → at + k < length u
+client_cell n t u c at k sound x e low same = omega (arith, client_room n t sound.long sound.ranged c x, e, low, same)
+
+pub database_sum : (n : Counts) (t : List ℕ) (c at k : ℕ) → Held n t → T (inside n.databases c) → at ≡ place n (database_up c) → k < 2 → Fits w64 (at + k)
+database_sum n t c at k sound x e low = omega (arith, database_room n t sound.long sound.ranged c x, e, low)
+
+pub database_offset : (n : Counts) (t : List ℕ) (c at k : ℕ) → Held n t → T (inside n.databases c) → at ≡ place n (database_up c) → k < 2 → Fits w64 ((at + k) * 2)
+database_offset n t c at k sound x e low = omega (arith, database_room n t sound.long sound.ranged c x, e, low)
+
+pub database_cell : (n : Counts) (t u : List ℕ) (c at k : ℕ) → Held n t → T (inside n.databases c) → at ≡ place n (database_up c) → k < 2 → length u ≡ length t
+    → at + k < length u
+database_cell n t u c at k sound x e low same = omega (arith, database_room n t sound.long sound.ranged c x, e, low, same)
+
+pub server_sum : (n : Counts) (t : List ℕ) (c at k : ℕ) → Held n t → T (inside n.servers c) → at ≡ place n (server_up c) → k < 2 → Fits w64 (at + k)
+server_sum n t c at k sound x e low = omega (arith, server_room n t sound.long sound.ranged c x, e, low)
+
+pub server_offset : (n : Counts) (t : List ℕ) (c at k : ℕ) → Held n t → T (inside n.servers c) → at ≡ place n (server_up c) → k < 2 → Fits w64 ((at + k) * 2)
+server_offset n t c at k sound x e low = omega (arith, server_room n t sound.long sound.ranged c x, e, low)
+
+pub server_cell : (n : Counts) (t u : List ℕ) (c at k : ℕ) → Held n t → T (inside n.servers c) → at ≡ place n (server_up c) → k < 2 → length u ≡ length t
+    → at + k < length u
+server_cell n t u c at k sound x e low same = omega (arith, server_room n t sound.long sound.ranged c x, e, low, same)
+
+-- a list that was written is as long as before
+pub still_long : (t u : List ℕ) (j v : ℕ) → length u ≡ length t → length (set u j v) ≡ length t
+still_long t u j v e = length-set u j v ∙ e
+
+-- ---- a rule: where its gate accepts its effect follows, and where the gate refuses nothing does
 
 module _ (n : Counts) (t : List ℕ) (r : Rule) where
-  pub refused : (k : ℕ) → rule_number r ≡ suc k → ◌≡◌ {A = Done} (record { number = suc k; cells = t }) (ruled n t r)
-  refused k e = rw e (ap (λ b. record { number = suc k; cells = cond b (set_all n t r.writes) t }) (sym (eqb-suc-zero k)))
+  pub went : (cells : List ℕ) → 0 ≡ rule_number r → cells ≡ set_all n t r.writes → ◌≡◌ {A = Done} (record { number = 0; cells = cells }) (ruled n t r)
+  went cells gate effect = rw (sym gate, sym effect)
 
-  pub followed_by : (cells : List ℕ) → rule_number r ≡ 0 → cells ≡ set_all n t r.writes → ◌≡◌ {A = Done} (record { number = 0; cells = cells }) (ruled n t r)
-  followed_by cells e f = rw (e, sym f)
+  pub stayed : (answer : Result (Unit {0}) Refusal) (refusal : Refusal) → IsErrAnd answer (λ given-back. given-back ≡ refusal) → refusal_number refusal ≡ rule_number r
+      → ◌≡◌ {A = Done} (record { number = answer_number answer; cells = t }) (ruled n t r)
+  stayed answer refusal back gate = rw (passed_on answer refusal back, sym gate, not_accepted refusal)
+
+-- the number of a rule with one "must", that the code asked
+pub one_must : (asked holds : Bool) → asked ≡ holds → ◌≡◌ {A = ℕ} (cond asked 0 7) (cond (holds && true) 0 7)
+one_must asked holds e = ap (λ b. cond b 0 7) e ∙ alone holds
+  where
+    alone : (b : Bool) → ◌≡◌ {A = ℕ} (cond b 0 7) (cond (b && true) 0 7)
+    alone true = refl
+    alone false = refl
+
+pub must_hold : (x k : ℕ) → ◌≡◌ {A = ℕ} 0 (cond (eqb x k) 0 7) → x ≡ k
+must_hold x k = by_both (λ b. ◌≡◌ {A = ℕ} 0 (cond b 0 7) → x ≡ k) (eqb x k) (λ t e. eqb→eq x k t) (λ t e. absurd (omega (arith, e)))
 
 -- ---- the rules' writes to a party's cells: at the place that the code computed
 
@@ -170,16 +221,6 @@ module _ (n : Counts) (t : List ℕ) (long : length t ≡ table_length n) (c at 
   pub waits_in : T (in_range n (view n t)) → get_or t (at + 1) 0 ≡ 1 → T (inside n.attempts (get_or t (at + 2) 0))
   waits_in range w = rw attempt_is (waiting_attempt n (view n t) (range_facts n (view n t) range) c x (sym phase_is ∙ w))
 
--- ---- nobody's cells
-
-pub ready_nobody : (n : Counts) (t : List ℕ) (d : ℕ) → d ≡ 0 → view n t (ready d) ≡ 0
-unfolding view
-ready_nobody n t d e = rw e refl
-
-pub suspects_nobody : (n : Counts) (t : List ℕ) (i : ℕ) → i ≡ 0 → view n t (suspects i) ≡ 0
-unfolding view
-suspects_nobody n t i e = rw e refl
-
 -- ---- what the field check says at a kind
 
 pub at_kind : (n : Counts) (e : Event) (k : ℕ) → e.kind ≡ k → every (fields n e) ≡ true → All (field_tests n (kind_of k) e)
@@ -193,6 +234,31 @@ pub no_row : (k : ℕ) → (k ≡ 3 → ⊥) → (k ≡ 4 → ⊥) → (k ≡ 5 
     → of_row k ≡ true → ⊥
 no_row k a b c d e f g h i z = false≢true
     (rw (ne_eqb k 3 a, ne_eqb k 4 b, ne_eqb k 5 c, ne_eqb k 6 d, ne_eqb k 7 e, ne_eqb k 8 f, ne_eqb k 11 g, ne_eqb k 12 h, ne_eqb k 13 i) at z)
+
+-- the database whose ready arrives, and the server that cleans, are named
+pub ready_names : (n : Counts) (e : Event) → Follows n e → e.kind ≡ 7 → T (inside n.databases e.database)
+ready_names n e follows is = (at_kind n e 7 is follows.fits).1.1.1.0
+
+pub clean_names : (n : Counts) (e : Event) → Follows n e → e.kind ≡ 11 → T (inside n.servers e.server)
+clean_names n e follows is = (at_kind n e 11 is follows.fits).1.1.0
+
+-- of what is asked of a party, the rule of a ready takes the ready cell, that of a clean the mask of the suspected, and no other takes any
+pub row_rule_asks : (n : Counts) (e : Event) (asked isReady suspected : ℕ) (r : Row) → (e.kind ≡ 7 → asked ≡ isReady) → (e.kind ≡ 11 → asked ≡ suspected)
+    → row_rule n e asked asked r ≡ row_rule n e isReady suspected r
+row_rule_asks n e asked isReady suspected r as_ready as_suspected =
+    let i = e.server in
+    let d = e.database in
+    let k = e.kind in
+    let decision = cond (eqb k 12) (decide_rule i d r) (ack_rule i d r) in
+    let cleaning = same_where (eqb k 11) (clean_rule i asked r) (clean_rule i suspected r) decision (λ t. ap (λ x. clean_rule i x r) (as_suspected (eqb→eq k 11 t))) in
+    let writing = ap (cond (eqb k 8) (write_rule n.databases i r)) cleaning in
+    let readiness = same_where (eqb k 7) (ready_rule i d asked r) (ready_rule i d isReady r) _ (λ t. ap (λ x. ready_rule i d x r) (as_ready (eqb→eq k 7 t))) in
+    ap (λ x. cond (eqb k 3) (request_rule i r) (cond (eqb k 4) (compute_rule i e.value r) (cond (eqb k 5) (prepare_rule d e.value r) (cond (eqb k 6) (vote_rule i d r) x))))
+    (readiness ∙ ap (cond (eqb k 7) (ready_rule i d isReady r)) writing)
+  where
+    same_where : (b : Bool) (x y z : RowRule) → (T b → x ≡ y) → cond b x z ≡ cond b y z
+    same_where true x y z f = f tt
+    same_where false x y z f = refl
 
 -- every rule of a row writes cells that there are, if its server is one
 pub row_rule_exists : (n : Counts) (e : Event) (isReady suspected : ℕ) → of_row e.kind ≡ true → every (fields n e) ≡ true → (r : Row) → FieldsExist n (row_rule n e isReady suspected r).writes
@@ -224,14 +290,9 @@ row_rule_exists n e isReady suspected ofRows fit r =
     differs : (a b : ℕ) → T (not (eqb a b)) → a ≡ b → ⊥
     differs a b t is = T_not (eqb a b) t (rw is (eqb_refl b))
 
--- ---- a rule whose gate answered, and whose effect was then done or not
-
-module _ (n : Counts) (t new : List ℕ) (r : Rule) (answer : Answer) (goes : Bool) (gate : answer_number answer ≡ rule_number r) (asked : goes ≡ eqb (answer_number answer) 0) where
-  pub went : goes ≡ true → new ≡ set_all n t r.writes → ◌≡◌ {A = Done} (record { number = answer_number answer; cells = new }) (ruled n t r)
-  went e effect = rw (sym gate, sym asked ∙ e, sym effect)
-
-  pub stayed : goes ≡ false → ◌≡◌ {A = Done} (record { number = answer_number answer; cells = t }) (ruled n t r)
-  stayed e = rw (sym gate, sym asked ∙ e)
+-- the part of a range of places is as long as it says
+pub range_width : (start end first width : ℕ) → start ≡ first → end ≡ first + width → end - start ≡ width
+range_width start end first width e f = omega (arith, e, f)
 
 -- ---- rule 14
 
@@ -245,14 +306,14 @@ module _ (n : Counts) (t : List ℕ) (c k : ℕ) (long : length t ≡ table_leng
   result_number i = ap₂ (λ (o m : ℕ). cond (every (ltb 0 o ∷ has_all n.databases m ∷ [])) 0 6) (lent_cell outcome) (lent_cell (known i))
 
   -- the decision that was read, by cases
-  module _ (d : Decision) (read : held (row_view n (part start width t) outcome) (row_view n (part start width t) value) ≡ d) where
+  module _ (d : Option Decision) (read : held (row_view n (part start width t) outcome) (row_view n (part start width t) value) ≡ d) where
     pub read_none : d ≡ None → view n t (row c k outcome) ≡ 1 → ⊥
     read_none e one = omega (arith, none_held (row_view n (part start width t) outcome) (row_view n (part start width t) value) (read ∙ e), lent_cell outcome)
 
-    pub read_abort : d ≡ Abort → view n t (row c k outcome) ≡ 1 → ⊥
+    pub read_abort : d ≡ Some Abort → view n t (row c k outcome) ≡ 1 → ⊥
     read_abort e one = abort_held (row_view n (part start width t) outcome) (row_view n (part start width t) value) (read ∙ e) (lent_cell outcome ∙ one)
 
-    pub read_commit : (v : ℕ) → d ≡ Commit v → (view n t (row c k outcome) ≡ 1) × (view n t (row c k value) ≡ v)
+    pub read_commit : (v : ℕ) → d ≡ Some (Commit v) → (view n t (row c k outcome) ≡ 1) × (view n t (row c k value) ≡ v)
     read_commit v e =
         let h = commit_held (row_view n (part start width t) outcome) (row_view n (part start width t) value) v (read ∙ e) in
         (sym (lent_cell outcome) ∙ h.0, sym (lent_cell value) ∙ h.1)

@@ -1,67 +1,59 @@
 // The rules over the whole table: the kinds of a row, on the row lent by itself, and one function for each kind of the parties.
-#![tactic(auto)]
+// The table is written as lent cells beside its counts (`Held`): between two stores of one rule it need not be sound, so no type could promise it.
+#![tactic(auto, using(crate::proofs::Laws::client_sum, crate::proofs::Laws::client_offset, crate::proofs::Laws::client_cell, crate::proofs::Laws::database_sum, crate::proofs::Laws::database_offset, crate::proofs::Laws::database_cell, crate::proofs::Laws::server_sum, crate::proofs::Laws::server_offset, crate::proofs::Laws::server_cell, crate::proofs::Laws::still_long))]
 
 ghost use Rattle.std.specs.Prelude.{◌≡◌, [], ◌∷◌, ◌≤◌, T, length};
 ghost use Rattle.lists.specs.Tests.{inside};
-ghost use Rattle.masks.specs.Mask.{all};
+ghost use Rattle.masks.specs.Mask.{all, put};
 ghost use Rattle.protocol.specs.Cells.{owner, sent, ready, suspects, phase, delivered, row_of, in_row};
 ghost use Rattle.protocol.specs.Rules.{calls, issue_rule, timeout_rule, suspect_rule, trust_rule, result_rule, server_crash_rule, database_crash_rule, client_crash_rule, recover_rule};
 ghost use Rattle.protocol.specs.Answers.{answer_number};
-ghost use Rattle.table.specs.Layout.{table_length};
+ghost use Rattle.protocol.specs.Kinds.{kind_number};
 ghost use Rattle.table.specs.Table.{view, set_all, row_view};
 ghost use Rattle.rows.specs.Rows.{Lent, stepped};
 ghost use Rattle.rules.specs.Rules.{Held, Named, ruled, Follows, row_rule, row_ruled, aborted, concluded};
 
-use layout::{ATTEMPT, DELIVERED, PHASE, READY, REQUEST, SUSPECTS};
-use protocol::{Answer, Counts, Event};
+use gates::Row;
+use layout::{ATTEMPT, DELIVERED, PHASE, READY, REQUEST, SUSPECTS, Table};
+use protocol::{Answer, Counts, Event, Kind, Phase, Refusal};
 use registers::Decision;
 
 // ---- the row of a result, lent by itself
 
-// The rule of a row's kind; `ready` is the ready cell of the event's database, `suspected` the mask of the event's server.
-fn follow_row(row: &mut [u16], counts: Counts, event: Event, ready: u16, suspected: u16) -> Answer
+// The rule of a row's kind; `asked` is what that rule asks of a party: the ready cell of the event's database, or whom the event's server suspects.
+fn follow_row(row: &mut [u16], counts: Counts, kind: Kind, event: Event, asked: u16) -> Answer
     requires lent { Lent counts row.old }
     requires follows { Follows counts event }
+    requires kind_read { kind_number kind ≡ event.kind }
     requires owner_in_mask { row_view counts row.old owner ≤ 16 }
-    ensures { record { number = answer_number result; cells = row.new } ≡ stepped counts row.old (row_rule counts event ready suspected (row_view counts row.old)) }
+    ensures { record { number = answer_number result; cells = row.new } ≡ stepped counts row.old (row_rule counts event asked asked (row_view counts row.old)) }
 {
-    let kind = event.kind;
     match kind {
-        3 => rows::request(row, counts, event.server),
-        4 => rows::compute(row, counts, event.server, event.value),
-        5 => rows::prepare(row, counts, event.database, event.value),
-        6 => rows::vote(row, counts, event.server, event.database),
-        7 => rows::hear_ready(row, counts, event.server, event.database, ready),
-        8 => rows::write(row, counts, event.server),
-        11 => rows::clean(row, counts, event.server, suspected),
-        12 => rows::decide(row, counts, event.server, event.database),
-        13 => rows::ack(row, counts, event.server, event.database),
-        _ => Answer::UnknownKind,
+        Kind::RequestArrives => rows::request(row, counts, event.server),
+        Kind::Compute => rows::compute(row, counts, event.server, event.value),
+        Kind::PrepareArrives => rows::prepare(row, counts, event.database, event.value),
+        Kind::VoteArrives => rows::vote(row, counts, event.server, event.database),
+        Kind::ReadyArrives => rows::hear_ready(row, counts, event.server, event.database, asked),
+        Kind::Write => rows::write(row, counts, event.server),
+        Kind::Clean => rows::clean(row, counts, event.server, asked),
+        Kind::DecideArrives => rows::decide(row, counts, event.server, event.database),
+        Kind::AckArrives => rows::ack(row, counts, event.server, event.database),
+        _ => Err(Refusal::UnknownKind),
     }
 }
 
-// The ready cell of a database, 0 where none is named.
-fn ready_of(table: &[u16], counts: Counts, database: u16) -> u16
-    requires { (length table.now ≡ table_length counts) × (database ≤ counts.databases) }
-    ensures { result ≡ view counts table.now (ready database) }
+// What the rule of a row's kind asks of a party, and 0 where it asks nothing of one.
+fn asked_of_party(table: Table, kind: Kind, event: Event) -> u16
+    requires follows { Follows table.counts event }
+    requires kind_read { kind_number kind ≡ event.kind }
+    ensures ready { event.kind ≡ 7 → result ≡ view table.entry.counts table.entry.cells.now (ready event.database) }
+    ensures suspected { event.kind ≡ 11 → result ≡ view table.entry.counts table.entry.cells.now (suspects event.server) }
 {
-    if database == 0 {
-        return 0;
+    match kind {
+        Kind::ReadyArrives => table.database(event.database)[READY],
+        Kind::Clean => table.server(event.server)[SUSPECTS],
+        _ => 0,
     }
-    let at = layout::database_at(counts, database);
-    table[at + READY]
-}
-
-// The servers that a server suspects, nobody where none is named.
-fn suspects_of(table: &[u16], counts: Counts, server: u16) -> u16
-    requires { (length table.now ≡ table_length counts) × (server ≤ counts.servers) }
-    ensures { result ≡ view counts table.now (suspects server) }
-{
-    if server == 0 {
-        return 0;
-    }
-    let at = layout::server_at(server);
-    table[at + SUSPECTS]
 }
 
 // The rule of a row's kind at the event's result.
@@ -70,11 +62,11 @@ pub fn at_row(table: &mut [u16], counts: Counts, event: Event) -> Answer
     requires follows { Follows counts event }
     ensures { record { number = answer_number result; cells = table.new } ≡ ruled counts table.old (row_ruled counts event (view counts table.old)) }
 {
-    let ready = ready_of(&table[..], counts, event.database);
-    let suspected = suspects_of(&table[..], counts, event.server);
-    let start = layout::row_start(counts, event.client, event.attempt);
-    let end = start + layout::row_length(counts);
-    follow_row(&mut table[start..end], counts, event, ready, suspected)
+    let kind = Kind::try_from(event.kind)?;
+    let cells = &table[..];
+    let asked = asked_of_party(Table { cells, counts }, kind, event);
+    let row = &mut table[layout::row_range(counts, event.client, event.attempt)];
+    follow_row(row, counts, kind, event, asked)
 }
 
 // The request of a result is sent to server 1.
@@ -82,9 +74,7 @@ fn call(table: &mut [u16], counts: Counts, client: u16, attempt: u16)
     requires { Named counts table.old client attempt }
     ensures { table.new ≡ set_all counts table.old (in_row client attempt (calls (row_of (view counts table.old) client attempt))) }
 {
-    let start = layout::row_start(counts, client, attempt);
-    let end = start + layout::row_length(counts);
-    rows::call(&mut table[start..end]);
+    rows::call(&mut table[layout::row_range(counts, client, attempt)]);
 }
 
 // The request of a result is sent to every server.
@@ -92,12 +82,24 @@ fn call_all(table: &mut [u16], counts: Counts, client: u16, attempt: u16)
     requires { Named counts table.old client attempt }
     ensures { table.new ≡ set_all counts table.old (in_row client attempt ((sent, all counts.servers) ∷ [])) }
 {
-    let start = layout::row_start(counts, client, attempt);
-    let end = start + layout::row_length(counts);
-    rows::call_all(&mut table[start..end], counts);
+    rows::call_all(
+        &mut table[layout::row_range(counts, client, attempt)],
+        counts,
+    );
 }
 
 // ---- the rules of the parties
+
+// A server suspects another, or not, from now on.
+fn doubt(table: &mut [u16], counts: Counts, server: u16, other: u16, doubted: bool)
+    requires held { Held counts table.old }
+    requires server_there { T (inside counts.servers server) }
+    requires other_in_mask { (1 ≤ other) × (other ≤ 16) }
+    ensures { table.new ≡ set_all counts table.old ((suspects server, put (view counts table.old (suspects server)) other doubted) ∷ []) }
+{
+    let at = layout::server_at(server) + SUSPECTS;
+    table[at] = masks::put(table[at], other, doubted);
+}
 
 // 1. A client issues its request.
 pub fn issue(table: &mut [u16], counts: Counts, client: u16, value: u16) -> Answer
@@ -106,14 +108,12 @@ pub fn issue(table: &mut [u16], counts: Counts, client: u16, value: u16) -> Answ
     ensures { record { number = answer_number result; cells = table.new } ≡ ruled counts table.old (issue_rule (view counts table.old) client value) }
 {
     let at = layout::client_at(counts, client);
-    if table[at + PHASE] != 0 {
-        return Answer::MustNot;
-    }
-    table[at + PHASE] = 1;
+    gates::must(table[at + PHASE] == Phase::Idle as u16)?;
+    table[at + PHASE] = Phase::Waiting as u16;
     table[at + ATTEMPT] = 1;
     table[at + REQUEST] = value;
     call(table, counts, client, 1);
-    Answer::Accepted
+    Ok(())
 }
 
 // 2. A client's timeout.
@@ -123,12 +123,10 @@ pub fn timeout(table: &mut [u16], counts: Counts, client: u16) -> Answer
     ensures { record { number = answer_number result; cells = table.new } ≡ ruled counts table.old (timeout_rule counts (view counts table.old) client) }
 {
     let at = layout::client_at(counts, client);
-    if table[at + PHASE] != 1 {
-        return Answer::MustNot;
-    }
+    gates::must(table[at + PHASE] == Phase::Waiting as u16)?;
     let attempt = table[at + ATTEMPT];
     call_all(table, counts, client, attempt);
-    Answer::Accepted
+    Ok(())
 }
 
 // 9. A server suspects another.
@@ -137,12 +135,9 @@ pub fn suspect(table: &mut [u16], counts: Counts, server: u16, other: u16) -> An
     requires servers_there { T (inside counts.servers server) × T (inside counts.servers other) }
     ensures { record { number = answer_number result; cells = table.new } ≡ ruled counts table.old (suspect_rule (view counts table.old) server other) }
 {
-    if server == other {
-        return Answer::MustNot;
-    }
-    let at = layout::server_at(server) + SUSPECTS;
-    table[at] = masks::with(table[at], other);
-    Answer::Accepted
+    gates::must(server != other)?;
+    doubt(table, counts, server, other, true);
+    Ok(())
 }
 
 // 10. A server trusts another again.
@@ -151,13 +146,12 @@ pub fn trust(table: &mut [u16], counts: Counts, server: u16, other: u16) -> Answ
     requires servers_there { T (inside counts.servers server) × T (inside counts.servers other) }
     ensures { record { number = answer_number result; cells = table.new } ≡ ruled counts table.old (trust_rule (view counts table.old) server other) }
 {
-    if server == other {
-        return Answer::MustNot;
-    }
-    let at = layout::server_at(server) + SUSPECTS;
-    table[at] = masks::without(table[at], other);
-    Answer::Accepted
+    gates::must(server != other)?;
+    doubt(table, counts, server, other, false);
+    Ok(())
 }
+
+// 15 to 17 are alike but for the place of the party's cell: each rule is a function of its own, as it is a definition of its own.
 
 // 15. A server crashes.
 pub fn crash_server(table: &mut [u16], counts: Counts, server: u16) -> Answer
@@ -167,7 +161,7 @@ pub fn crash_server(table: &mut [u16], counts: Counts, server: u16) -> Answer
 {
     let at = layout::server_at(server);
     table[at] = 0;
-    Answer::Accepted
+    Ok(())
 }
 
 // 16. A database crashes.
@@ -178,7 +172,7 @@ pub fn crash_database(table: &mut [u16], counts: Counts, database: u16) -> Answe
 {
     let at = layout::database_at(counts, database);
     table[at] = 0;
-    Answer::Accepted
+    Ok(())
 }
 
 // 17. A client crashes.
@@ -189,7 +183,7 @@ pub fn crash_client(table: &mut [u16], counts: Counts, client: u16) -> Answer
 {
     let at = layout::client_at(counts, client);
     table[at] = 0;
-    Answer::Accepted
+    Ok(())
 }
 
 // 18. A database recovers.
@@ -199,12 +193,10 @@ pub fn recover(table: &mut [u16], counts: Counts, database: u16) -> Answer
     ensures { record { number = answer_number result; cells = table.new } ≡ ruled counts table.old (recover_rule (view counts table.old) database) }
 {
     let at = layout::database_at(counts, database);
-    if table[at] != 0 {
-        return Answer::MustNot;
-    }
+    gates::must(table[at] == 0)?;
     table[at] = 1;
     table[at + READY] = 1;
-    Answer::Accepted
+    Ok(())
 }
 
 // A commit reaches its client: phase 2, and the value is delivered.
@@ -214,7 +206,7 @@ fn deliver(table: &mut [u16], counts: Counts, client: u16, value: u16)
     ensures { table.new ≡ set_all counts table.old ((phase client, 2) ∷ (delivered client, value) ∷ []) }
 {
     let at = layout::client_at(counts, client);
-    table[at + PHASE] = 2;
+    table[at + PHASE] = Phase::Delivered as u16;
     table[at + DELIVERED] = value;
 }
 
@@ -226,7 +218,7 @@ fn advance(table: &mut [u16], counts: Counts, client: u16, attempt: u16)
 {
     let at = layout::client_at(counts, client);
     if attempt == counts.attempts {
-        table[at + PHASE] = 3;
+        table[at + PHASE] = Phase::GivenUp as u16;
         return;
     }
     table[at + ATTEMPT] = attempt + 1;
@@ -240,20 +232,14 @@ fn conclude(table: &mut [u16], counts: Counts, client: u16, attempt: u16)
     ensures { table.new ≡ set_all counts table.old (concluded counts (view counts table.old) client attempt) }
 {
     let at = layout::client_at(counts, client);
-    if table[at + PHASE] != 1 {
+    if table[at + PHASE] != Phase::Waiting as u16 || table[at + ATTEMPT] != attempt {
         return;
     }
-    if table[at + ATTEMPT] != attempt {
-        return;
-    }
-    let start = layout::row_start(counts, client, attempt);
-    let end = start + layout::row_length(counts);
-    let row = gates::load(&table[start..end]);
-    let decision = row.decision;
-    match decision {
-        Decision::None => advance(table, counts, client, attempt),
-        Decision::Commit(value) => deliver(table, counts, client, value),
-        Decision::Abort => advance(table, counts, client, attempt),
+    let row = Row::load(&table[layout::row_range(counts, client, attempt)]);
+    match row.decision {
+        Some(Decision::Commit(value)) => deliver(table, counts, client, value),
+        Some(Decision::Abort) => advance(table, counts, client, attempt),
+        None => advance(table, counts, client, attempt),
     }
 }
 
@@ -264,11 +250,11 @@ pub fn result(table: &mut [u16], counts: Counts, client: u16, attempt: u16, serv
     requires server_there { T (inside counts.servers server) }
     ensures { record { number = answer_number result; cells = table.new } ≡ ruled counts table.old (result_rule counts (view counts table.old) client attempt server) }
 {
-    let start = layout::row_start(counts, client, attempt);
-    let end = start + layout::row_length(counts);
-    let answer = rows::result(&table[start..end], counts, server);
-    if gates::is_accepted(answer) {
-        conclude(table, counts, client, attempt);
-    }
-    answer
+    rows::result(
+        &table[layout::row_range(counts, client, attempt)],
+        counts,
+        server,
+    )?;
+    conclude(table, counts, client, attempt);
+    Ok(())
 }

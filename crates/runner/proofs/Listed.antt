@@ -1,18 +1,23 @@
 -- The list job's invariant, with no word of the machine: i records of rs are accepted, ts are the cells after them, a sound table, and what is left to say of the rest of the list is what is said of the whole.
 --     Facts            the invariant.        Said      what is said at the end: the three fields of `ran`
 --     starts, goes_on, stops, ended      it holds at the start; an accepted record keeps it; a refused one, and the end of the list, give the answers
---     accepts, refuses     the same of a step's answer.        checked     what the check before the loop says
+--     accepts, refuses     the same of a step's answer.        some_number     that of a refusal is not 0
 -- Assumes nothing.
 use mathlib.Core.Path.{◌≡◌, refl, sym, ◌∙◌, ap, subst}
 use Prim.Native.Nat.{ℕ, suc, ◌+◌, ◌<◌, ◌≤◌, zero-le}
 use native.Mathlib.Nat.{zero-add, add-zero, add-suc, suc-add}
 use native.Mathlib.Numerals.{add-one}
 use mathlib.Core.List.{List, [], ◌∷◌}
-use lib.Dec.{T}
+use lib.Dec.{T, eqb}
 use lib.ListN.{length, get_or, drop, drop_of_length-le}
 use lib.Seq.{drop-cons}
 use Rattle.protocol.specs.declared.Event.{Event as Record}
-use Rattle.table.specs.Jobs.{table_number, applied, Ran, stopped, run_from, ran}
+use native.Mathlib.Omega.{arith}
+use mathlib.Core.Bool.{false≢true}
+use Rattle.protocol.specs.declared.Refusal.{Refusal}
+use Rattle.protocol.specs.Answers.{refusal_number}
+use Rattle.protocol.proofs.Answers.{not_accepted}
+use Rattle.table.specs.Jobs.{Done, table_number, applied, Ran, stopped, run_from, ran}
 use Rattle.table.proofs.Runs.{ran_unsound, ran_from, from_accepted, from_refused}
 use Rattle.table.specs.Table.{sound}
 use Rattle.table.proofs.Soundness.{sound_when, sound_left, refused_untouched}
@@ -52,8 +57,10 @@ module _ (ys : List ℕ) (rs : List Record) where
       let left = subst (Left i) ends f.2 in
       subst (λ run. Says run i number ts) (sym (ran_from ys rs ((sound_when ys).1 is_sound))) (sym (add-zero i) ∙ left.0, left.1, left.2)
 
-  pub ended : (i : ℕ) (ts : List ℕ) → T (sound ys) → Facts i ts → length rs ≤ i → Said i 0 ts
-  ended i ts is_sound f over = stopped_there i 0 ts is_sound (ap (run_from ts) (drop_of_length-le rs over) ∙ from_none ts) f
+  pub ended : (i : ℕ) (ts : List ℕ) → T (sound ys) → Facts i ts → length rs ≤ i → Said (length rs) 0 ts
+  ended i ts is_sound f over =
+      let all : i ≡ length rs = omega (arith, f.0, over) in
+      subst (λ j. Said j 0 ts) all (stopped_there i 0 ts is_sound (ap (run_from ts) (drop_of_length-le rs over) ∙ from_none ts) f)
 
   module _ (i : ℕ) (ts : List ℕ) (d : Record) (less : i < length rs) where
     abbrev r : Record
@@ -74,17 +81,17 @@ module _ (ys : List ℕ) (rs : List Record) where
 
   -- the same, of what a step on the list's next record answers and leaves
   module _ (i : ℕ) (ts : List ℕ) (d : Record) (less : i < length rs) (number : ℕ) (cells : List ℕ)
-      (does : (number ≡ (applied ts (get_or rs i d)).number) × (cells ≡ (applied ts (get_or rs i d)).cells)) where
+      (does : ◌≡◌ {A = Done} (record { number = number; cells = cells }) (applied ts (get_or rs i d))) where
     pub refuses : T (sound ys) → Facts i ts → (number ≡ 0 → ⊥) → Said i number cells
     refuses is_sound f refused =
-        let said = stops i ts d less is_sound f (λ zero. refused (does.0 ∙ zero)) in
-        (said.0, does.0 ∙ said.1, does.1 ∙ said.2)
+        let said = stops i ts d less is_sound f (λ zero. refused (ap (λ s. s.number) does ∙ zero)) in
+        (said.0, ap (λ s. s.number) does ∙ said.1, ap (λ s. s.cells) does ∙ said.2)
 
     pub accepts : Facts i ts → number ≡ 0 → length cells ≡ length ts → Facts (i + 1) cells
     accepts f accepted long =
-        subst (λ l. Facts (i + 1) l) (sym does.1)
-        (goes_on i ts d less f (sym does.0 ∙ accepted) (ap length (sym does.1) ∙ long))
+        subst (λ l. Facts (i + 1) l) (ap (λ s. s.cells) (sym does))
+        (goes_on i ts d less f (ap (λ s. s.number) (sym does) ∙ accepted) (ap (λ s. length s.cells) (sym does) ∙ long))
 
--- a table of which 1 and 2 are asked, with the answer 0
-pub checked : (t : List ℕ) (number : ℕ) → number ≡ table_number t → number ≡ 0 → T (sound t)
-checked t number is zero = (sound_when t).0 (sym is ∙ zero)
+-- no refusal has the number of an event that is accepted
+pub some_number : (refusal : Refusal) → refusal_number refusal ≡ 0 → ⊥
+some_number refusal zero = false≢true (sym (not_accepted refusal) ∙ ap (λ x. eqb x 0) zero)

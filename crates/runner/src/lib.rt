@@ -12,10 +12,10 @@ pub fn vrolkant_table_length(clients: u16, servers: u16, databases: u16, attempt
     ensures { result ≡ length_for (record { clients = clients; servers = servers; databases = databases; attempts = attempts }) }
 {
     let counts = Counts {
-        clients: clients,
-        servers: servers,
-        databases: databases,
-        attempts: attempts,
+        clients,
+        servers,
+        databases,
+        attempts,
     };
     if !layout::counts_fit(counts) {
         return 0;
@@ -34,10 +34,10 @@ pub fn vrolkant_set_up(
     ensures { (result ≡ (set_up table.old (record { clients = clients; servers = servers; databases = databases; attempts = attempts })).number) × (table.new ≡ (set_up table.old (record { clients = clients; servers = servers; databases = databases; attempts = attempts })).cells) }
 {
     let counts = Counts {
-        clients: clients,
-        servers: servers,
-        databases: databases,
-        attempts: attempts,
+        clients,
+        servers,
+        databases,
+        attempts,
     };
     engine::number(engine::set_up(table, counts))
 }
@@ -55,19 +55,19 @@ pub fn vrolkant_apply(
     ensures { (result ≡ (applied table.old (record { kind = kind; client = client; attempt = attempt; server = server; database = database; value = value })).number) × (table.new ≡ (applied table.old (record { kind = kind; client = client; attempt = attempt; server = server; database = database; value = value })).cells) }
 {
     let event = Event {
-        kind: kind,
-        client: client,
-        attempt: attempt,
-        server: server,
-        database: database,
-        value: value,
+        kind,
+        client,
+        attempt,
+        server,
+        database,
+        value,
     };
     engine::step(table, event)
 }
 
 // How many events were accepted, and the number of the refusal that ended the list, or 0.
 #[repr(C)]
-#[derive(Clone, Copy)]
+#[derive(Clone, Copy, Debug, PartialEq, Eq)]
 pub struct Ran {
     pub accepted: usize,
     pub refusal: u16,
@@ -78,26 +78,22 @@ pub fn vrolkant_run(table: &mut [u16], events: &[Event]) -> Ran
     ensures { (result.accepted ≡ (ran table.old events.now).accepted) × (result.refusal ≡ (ran table.old events.now).refusal) × (table.new ≡ (ran table.old events.now).cells) }
 {
     // once, because an accepted event leaves a sound table sound; an empty list is asked too
-    let first = engine::check(table);
-    if first != 0 {
+    if let Err(refusal) = engine::look_over(&table[..]) {
         return Ran {
             accepted: 0,
-            refusal: first,
+            refusal: u16::from(refusal),
         };
     }
-    let mut i: usize = 0;
-    while i < events.len() {
-        let number = engine::step_sound(table, events[i]);
-        if number != 0 {
+    for (accepted, event) in events.iter().enumerate() {
+        if let Err(refusal) = engine::apply_sound(table, *event) {
             return Ran {
-                accepted: i,
-                refusal: number,
+                accepted,
+                refusal: u16::from(refusal),
             };
         }
-        i += 1;
     }
     Ran {
-        accepted: i,
+        accepted: events.len(),
         refusal: 0,
     }
 }

@@ -101,7 +101,7 @@ module _ (end : ℕ) (rest : List ℕ) where
       let behind = r.others ++ (end ∷ rest) in
       let reads = digit_read 0 r.first behind r.small (omega arith) ∙ rw zero-add (r.read (end ∷ rest)) ∙ digits_stop n other in
       let above : zero_digit + r.first ≡ zero_digit → ⊥ = λ e. omega (arith, r.low) in
-      rw r.written (sym (several ((zero_digit + r.first) ∷ behind) 0 end (omega arith) _ (sym reads) (digit_is r.first r.small) above fits) ∙ ended_here n)
+      rw r.written (sym (several end (zero_digit + r.first) behind _ (sym reads) (digit_is r.first r.small) above fits) ∙ ended_here n)
 
 -- the byte that ends a number must be no digit: it would be read on
 pub read_written : (n end : ℕ) (rest : List ℕ) → n ≤ most → is_digit end ≡ false → read_number end (decimal n ++ (end ∷ rest)) ≡ some (n, rest)

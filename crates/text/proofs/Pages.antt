@@ -6,7 +6,9 @@ use native.Mathlib.Omega.{arith}
 use lib.ListN.{length, set, length-append}
 use lib.Seq.{drop-nil, set-append_seam}
 use borrow.Author.Tests.{lt-ltb, le-ltb}
+use Rattle.text.specs.declared.Page.{Page as LentPage}
 use Rattle.text.specs.Writing.{Page, put_byte, puts, over}
+use Rattle.text.specs.Lent.{shown, Continues}
 
 pub puts_append : (page : Page) (a b : List ℕ) → puts page (a ++ b) ≡ puts (puts page a) b
 unfolding puts
@@ -16,6 +18,13 @@ puts_append page (x ∷ a) b = puts_append (put_byte page x) a b
 -- one piece behind another
 pub follows : (first second third : Page) (a b : List ℕ) → second ≡ puts first a → third ≡ puts second b → third ≡ puts first (a ++ b)
 follows first second third a b e f = f ∙ (ap (λ (page : Page). puts page b) e ∙ sym (puts_append first a b))
+
+pub continues : (first second third : LentPage) (a b : List ℕ) → Continues first second a → Continues second third b → Continues first third (a ++ b)
+continues first second third a b e f =
+    record {
+      text_after = follows (shown first) (shown second) (shown third) a b e.text_after f.text_after;
+      same_room = f.same_room ∙ e.same_room;
+    }
 
 -- one byte, where there is room and where there is none
 pub put_room : (cells : List ℕ) (at b : ℕ) → at < length cells → record { cells = set cells at b; at = at + 1 } ≡ puts (record { cells = cells; at = at }) (b ∷ [])

@@ -1,3 +1,4 @@
 pub mod Writing
+pub mod Lent
 pub mod Reading
 pub mod Seen

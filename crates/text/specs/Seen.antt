@@ -1,9 +1,9 @@
--- What an answer of the reader says of the text: the number and what stands behind it.
-use Rattle.std.specs.Prelude.{List, ℕ, drop}
+-- What an answer of the reader says: what was found, and what stands behind it.
+use Rattle.std.specs.Prelude.{List, ℕ, Some, None}
+use Rattle.std.specs.Prelude.{Option as Answer}
+use Rattle.std.specs.Borrow.{Bor}
 use Rattle.std.proofs.Math.Option.{Option, none, some}
-use Rattle.text.specs.declared.Number.{Number}
-use Rattle.text.specs.declared.Number.TheVariants.{Found, Malformed}
 
-abbrev pub number_seen : List ℕ → Number → Option (ℕ × List ℕ)
-number_seen text (Found number next) = some (number, drop next text)
-number_seen text Malformed = none
+abbrev pub seen : {A : Type 0} → Answer (A × (Bor (List ℕ))) → Option (A × List ℕ)
+seen None = none
+seen (Some found) = some (found.0, found.1.now)

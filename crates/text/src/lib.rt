@@ -1,147 +1,119 @@
 // Decimal numbers as text, and back: what the lines of a listing are made of.
 #![tactic(auto)]
 
-ghost use Rattle.std.specs.Prelude.{◌≡◌, ◌&&◌, [], ◌∷◌, ◌++◌, ◌≤◌, leb, drop};
-ghost use Rattle.text.specs.Writing.{puts, digit_at, decimal};
+ghost use Rattle.std.specs.Prelude.{◌≡◌, ◌&&◌, [], ◌∷◌, ◌++◌, ◌≤◌, leb, take};
+ghost use Rattle.text.specs.Writing.{digit_at, decimal};
+ghost use Rattle.text.specs.Lent.{Continues};
 ghost use Rattle.text.specs.Reading.{most, is_digit, digits, ended_by, read_number};
-ghost use Rattle.text.specs.Seen.{number_seen};
+ghost use Rattle.text.specs.Seen.{seen};
 
-// The bytes that separate numbers, end a line, and start the digits.
-pub const SPACE: u8 = 32;
+// The bytes that separate numbers and end a line.
+pub const SPACE: u8 = b' ';
 
-pub const NEWLINE: u8 = 10;
-
-const ZERO: u8 = 48;
-
-const NINE: u8 = 57;
+pub const NEWLINE: u8 = b'\n';
 
 // The largest number that a line may hold.
 const MOST: u32 = 65535;
 
-// ---- writing: each function continues the text at a place of the lent room and answers where it ends; what has no room is left out
+// ---- writing
 
-// One byte.
-pub fn put(out: &mut [u8], at: usize, byte: u8) -> usize
-    ensures { record { cells = out.new; at = result } ≡ puts (record { cells = out.old; at = at }) (byte ∷ []) }
-{
-    if at < out.len() {
-        out[at] = byte;
-        return at + 1;
-    }
-    at
+// Lent room, and how much of it is written; what has no room is left out. Memory is fixed, so it is no `Vec`.
+#[derive(Drop)]
+pub struct Page<'a> {
+    pub room: &'a mut [u8],
+    pub end: usize,
 }
 
-// The digit of a number at a place, where the number reaches it.
-fn put_digit(out: &mut [u8], at: usize, number: u16, place: u16) -> usize
-    requires { 1 ≤ place }
-    ensures { record { cells = out.new; at = result } ≡ puts (record { cells = out.old; at = at }) (digit_at number place) }
-{
-    if number < place {
-        return at;
+impl Page<'_> {
+    // The text that is written.
+    pub fn written(&self) -> &[u8]
+        ensures { result.now ≡ take self.now.end self.now.room.now }
+    {
+        let end = self.end.min(self.room.len());
+        &self.room[..end]
     }
-    put(out, at, ZERO + (number / place % 10) as u8)
-}
 
-// A number and the byte behind it.
-pub fn put_number(out: &mut [u8], at: usize, number: u16, end: u8) -> usize
-    ensures { record { cells = out.new; at = result } ≡ puts (record { cells = out.old; at = at }) (decimal number ++ (end ∷ [])) }
-{
-    let thousands = put_digit(out, at, number, 10000);
-    let hundreds = put_digit(out, thousands, number, 1000);
-    let tens = put_digit(out, hundreds, number, 100);
-    let ones = put_digit(out, tens, number, 10);
-    let behind = put(out, ones, ZERO + (number % 10) as u8);
-    put(out, behind, end)
+    // One byte.
+    pub fn put(&mut self, byte: u8)
+        ensures { Continues self.old self.new (byte ∷ []) }
+    {
+        if self.end < self.room.len() {
+            self.room[self.end] = byte;
+            self.end += 1;
+        }
+    }
+
+    // The digit of a number at a place, where the number reaches it.
+    fn put_digit(&mut self, number: u16, place: u16)
+        requires { 1 ≤ place }
+        ensures { Continues self.old self.new (digit_at number place) }
+    {
+        if number >= place {
+            self.put(b'0' + (number / place % 10) as u8);
+        }
+    }
+
+    // A number and the byte behind it. Digit by digit, since what `write!` puts is promised only on `Ok`, and this cannot fail.
+    pub fn put_number(&mut self, number: u16, end: u8)
+        ensures { Continues self.old self.new (decimal number ++ (end ∷ [])) }
+    {
+        self.put_digit(number, 10000);
+        self.put_digit(number, 1000);
+        self.put_digit(number, 100);
+        self.put_digit(number, 10);
+        self.put(b'0' + (number % 10) as u8);
+        self.put(end);
+    }
 }
 
 // ---- reading
-
-// A number that was read, and the place behind the byte that ended it.
-#[derive(Clone, Copy)]
-pub enum Number {
-    Found(u16, usize),
-    Malformed,
-}
-
-// The value of some digits, and the place behind them.
-#[derive(Clone, Copy)]
-struct Run {
-    value: u32,
-    next: usize,
-}
-
-fn is_digit(byte: u8) -> bool
-    ensures { result ≡ is_digit byte }
-{
-    if byte < ZERO {
-        return false;
-    }
-    byte <= NINE
-}
 
 // Whether a byte is read as one digit more behind a value.
 fn reads_on(value: u32, byte: u8) -> bool
     ensures { result ≡ (is_digit byte && leb value most) }
 {
-    if !is_digit(byte) {
-        return false;
-    }
-    value <= MOST
+    byte.is_ascii_digit() && value <= MOST
 }
 
-// The digits from a place on, as far as the value can still be a number of a line.
-fn read_digits(input: &[u8], start: usize) -> Run
-    ensures { record { value = result.value; rest = drop result.next input.now } ≡ digits 0 (drop start input.now) }
+// The value of the digits that a text starts with, as far as it can still be a number of a line, and what stands behind them.
+fn read_digits(input: &[u8]) -> (u32, &[u8])
+    ensures { record { value = result.0; rest = result.1.now } ≡ digits 0 input.now }
 {
     let mut value: u32 = 0;
-    let mut at = start;
-    while at < input.len() {
-        let byte = input[at];
-        if !reads_on(value, byte) {
-            return Run {
-                value: value,
-                next: at,
-            };
+    let mut rest = input;
+    while let Some((byte, behind)) = rest.split_first() {
+        if !reads_on(value, *byte) {
+            return (value, rest);
         }
-        value = value * 10 + (byte - ZERO) as u32;
-        at += 1;
+        value = value * 10 + (*byte - b'0') as u32;
+        rest = behind;
     }
-    Run {
-        value: value,
-        next: at,
+    (value, rest)
+}
+
+// What stands behind the byte that has to end a number.
+fn read_end(input: &[u8], number: u16, end: u8) -> Option<(u16, &[u8])>
+    ensures { seen result ≡ ended_by end number input.now }
+{
+    let (byte, behind) = input.split_first()?;
+    if *byte == end {
+        Some((number, behind))
+    } else {
+        None
     }
 }
 
-// A number that ends at a place, if the byte there is the one that has to end it.
-fn read_end(input: &[u8], at: usize, number: u16, end: u8) -> Number
-    ensures { number_seen input.now result ≡ ended_by end number (drop at input.now) }
+// A number up to 65535 without leading zeros and the byte that has to end it; what stands behind it. Digit by digit, since `parse` takes leading zeros and a sign.
+pub fn read_number(input: &[u8], end: u8) -> Option<(u16, &[u8])>
+    ensures { seen result ≡ read_number end input.now }
 {
-    if input.len() <= at {
-        return Number::Malformed;
+    let (first, behind) = input.split_first()?;
+    if !first.is_ascii_digit() {
+        return None;
     }
-    if input[at] != end {
-        return Number::Malformed;
+    if *first == b'0' {
+        return read_end(behind, 0, end);
     }
-    Number::Found(number, at + 1)
-}
-
-// A number up to 65535 without leading zeros, and the byte that has to end it.
-pub fn read_number(input: &[u8], start: usize, end: u8) -> Number
-    ensures { number_seen input.now result ≡ read_number end (drop start input.now) }
-{
-    if input.len() <= start {
-        return Number::Malformed;
-    }
-    let first = input[start];
-    if !is_digit(first) {
-        return Number::Malformed;
-    }
-    if first == ZERO {
-        return read_end(input, start + 1, 0, end);
-    }
-    let run = read_digits(input, start);
-    if MOST < run.value {
-        return Number::Malformed;
-    }
-    read_end(input, run.next, run.value as u16, end)
+    let (value, rest) = read_digits(input);
+    read_end(rest, u16::try_from(value).ok()?, end)
 }

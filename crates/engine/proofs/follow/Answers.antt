@@ -1,86 +1,50 @@
 -- `engine::follow` meets its contract.
+use mathlib.Core.Path.{sym, ap, ◌∙◌}
+use Rattle.protocol.specs.Kinds.{kind_number}
 use Rattle.engine.specs.Engine.{followed}
-use native.Mathlib.Omega.{arith}
-use mathlib.Core.Path.{◌≡◌}
-use Rattle.protocol.proofs.Records.{above_kinds}
+use Rattle.engine.proofs.Laws.{is_of_row}
 use Rattle.engine.proofs.follow.Goals as goal
 
-pub returns-in-1 : goal.returns-in-1
-unfolding followed
-returns-in-1 c = rw c.in-1.is c.issue.ensures
+pub at_row-requires-clause-follows : goal.at_row-requires-clause-follows
+at_row-requires-clause-follows c =
+    (is_of_row c.args.counts c.args.table.now c.args.event c.requires.fields_fit c.args.kind c.in-RequestArrives.is c.requires.kind_read).0
 
-pub returns-in-2 : goal.returns-in-2
-unfolding followed
-returns-in-2 c = rw c.in-2.is c.timeout.ensures
+pub returns-in-RequestArrives : goal.returns-in-RequestArrives
+returns-in-RequestArrives c =
+    c.at_row.ensures ∙ (is_of_row c.args.counts c.args.table.now c.args.event c.requires.fields_fit c.args.kind c.in-RequestArrives.is c.requires.kind_read).1
 
-pub returns-in-3 : goal.returns-in-3
+pub returns-in-Issue : goal.returns-in-Issue
 unfolding followed
-returns-in-3 c = rw c.in-3.is (rw c.in-3.is at c.at_row.ensures)
+returns-in-Issue c = rw (sym c.requires.kind_read ∙ ap kind_number c.in-Issue.is) c.issue.ensures
 
-pub returns-in-4 : goal.returns-in-4
+pub returns-in-Timeout : goal.returns-in-Timeout
 unfolding followed
-returns-in-4 c = rw c.in-4.is (rw c.in-4.is at c.at_row-in-4.ensures)
+returns-in-Timeout c = rw (sym c.requires.kind_read ∙ ap kind_number c.in-Timeout.is) c.timeout.ensures
 
-pub returns-in-5 : goal.returns-in-5
+pub returns-in-Suspect : goal.returns-in-Suspect
 unfolding followed
-returns-in-5 c = rw c.in-5.is (rw c.in-5.is at c.at_row-in-5.ensures)
+returns-in-Suspect c = rw (sym c.requires.kind_read ∙ ap kind_number c.in-Suspect.is) c.suspect.ensures
 
-pub returns-in-6 : goal.returns-in-6
+pub returns-in-Trust : goal.returns-in-Trust
 unfolding followed
-returns-in-6 c = rw c.in-6.is (rw c.in-6.is at c.at_row-in-6.ensures)
+returns-in-Trust c = rw (sym c.requires.kind_read ∙ ap kind_number c.in-Trust.is) c.trust.ensures
 
-pub returns-in-7 : goal.returns-in-7
+pub returns-in-ResultArrives : goal.returns-in-ResultArrives
 unfolding followed
-returns-in-7 c = rw c.in-7.is (rw c.in-7.is at c.at_row-in-7.ensures)
+returns-in-ResultArrives c = rw (sym c.requires.kind_read ∙ ap kind_number c.in-ResultArrives.is) c.result.ensures
 
-pub returns-in-8 : goal.returns-in-8
+pub returns-in-ServerCrashes : goal.returns-in-ServerCrashes
 unfolding followed
-returns-in-8 c = rw c.in-8.is (rw c.in-8.is at c.at_row-in-8.ensures)
+returns-in-ServerCrashes c = rw (sym c.requires.kind_read ∙ ap kind_number c.in-ServerCrashes.is) c.crash_server.ensures
 
-pub returns-in-9 : goal.returns-in-9
+pub returns-in-DatabaseCrashes : goal.returns-in-DatabaseCrashes
 unfolding followed
-returns-in-9 c = rw c.in-9.is c.suspect.ensures
+returns-in-DatabaseCrashes c = rw (sym c.requires.kind_read ∙ ap kind_number c.in-DatabaseCrashes.is) c.crash_database.ensures
 
-pub returns-in-10 : goal.returns-in-10
+pub returns-in-ClientCrashes : goal.returns-in-ClientCrashes
 unfolding followed
-returns-in-10 c = rw c.in-10.is c.trust.ensures
+returns-in-ClientCrashes c = rw (sym c.requires.kind_read ∙ ap kind_number c.in-ClientCrashes.is) c.crash_client.ensures
 
-pub returns-in-11 : goal.returns-in-11
+pub returns-in-DatabaseRecovers : goal.returns-in-DatabaseRecovers
 unfolding followed
-returns-in-11 c = rw c.in-11.is (rw c.in-11.is at c.at_row-in-11.ensures)
-
-pub returns-in-12 : goal.returns-in-12
-unfolding followed
-returns-in-12 c = rw c.in-12.is (rw c.in-12.is at c.at_row-in-12.ensures)
-
-pub returns-in-13 : goal.returns-in-13
-unfolding followed
-returns-in-13 c = rw c.in-13.is (rw c.in-13.is at c.at_row-in-13.ensures)
-
-pub returns-in-14 : goal.returns-in-14
-unfolding followed
-returns-in-14 c = rw c.in-14.is c.result.ensures
-
-pub returns-in-15 : goal.returns-in-15
-unfolding followed
-returns-in-15 c = rw c.in-15.is c.crash_server.ensures
-
-pub returns-in-16 : goal.returns-in-16
-unfolding followed
-returns-in-16 c = rw c.in-16.is c.crash_database.ensures
-
-pub returns-in-17 : goal.returns-in-17
-unfolding followed
-returns-in-17 c = rw c.in-17.is c.crash_client.ensures
-
-pub returns-in-18 : goal.returns-in-18
-unfolding followed
-returns-in-18 c = rw c.in-18.is c.recover.ensures
-
-pub returns-in-0 : goal.returns-in-0
-unfolding followed
-returns-in-0 c = let none : c.args.event.kind ≡ 0 = omega arith in rw none
-
-pub returns-in-0-2 : goal.returns-in-0-2
-unfolding followed
-returns-in-0-2 c = rw (above_kinds c.args.event.kind (omega arith))
+returns-in-DatabaseRecovers c = rw (sym c.requires.kind_read ∙ ap kind_number c.in-DatabaseRecovers.is) c.recover.ensures

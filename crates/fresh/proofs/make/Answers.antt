@@ -4,10 +4,6 @@ use native.Mathlib.Omega.{arith}
 use Rattle.fresh.proofs.Laws.{servers_first, databases_first, clients_first, parties_inside, made}
 use Rattle.fresh.proofs.make.Goals as goal
 
-pub write_header-requires : goal.write_header-requires
-write_header-requires c =
-    omega (arith, parties_inside c.args.counts, c.requires, c.clear.auto.table)
-
 pub raise-requires : goal.raise-requires
 raise-requires c =
     let n = c.args.counts in (
@@ -18,41 +14,8 @@ raise-requires c =
         servers_first n,
         parties_inside n,
         c.requires,
-        c.clear.auto.table,
+        c.fill.auto.self,
         c.write_header.auto.table,
-      ),
-    )
-
-pub raise-requires-2 : goal.raise-requires-2
-raise-requires-2 c =
-    let n = c.args.counts in (
-      omega arith,
-      omega (
-        arith,
-        c.database_at.ensures,
-        databases_first n,
-        parties_inside n,
-        c.requires,
-        c.clear.auto.table,
-        c.write_header.auto.table,
-        c.raise.auto.table,
-      ),
-    )
-
-pub raise-requires-3 : goal.raise-requires-3
-raise-requires-3 c =
-    let n = c.args.counts in (
-      omega arith,
-      omega (
-        arith,
-        c.client_at.ensures,
-        clients_first n,
-        parties_inside n,
-        c.requires,
-        c.clear.auto.table,
-        c.write_header.auto.table,
-        c.raise.auto.table,
-        c.raise-2.auto.table,
       ),
     )
 
@@ -67,6 +30,6 @@ returns c =
       c.raise.ensures,
       c.server_at.ensures n ∙ servers_first n,
       c.write_header.ensures,
-      c.clear.ensures,
+      c.fill.ensures.after (λ y e. e),
     )
     (made n c.args.table.now c.requires)

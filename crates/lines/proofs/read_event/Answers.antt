@@ -1,78 +1,10 @@
 -- `lines::read_event` meets its contract.
-use Rattle.lines.specs.Lines.{read_event}
-use Rattle.lines.proofs.Laws.{found, malformed}
+use mathlib.Core.Option.{none, some}
+use Rattle.lines.proofs.Numbers.{event_from}
 use Rattle.lines.proofs.read_event.Goals as goal
 
-pub returns-in_default : goal.returns-in_default
-unfolding read_event
-returns-in_default c =
-    let input = c.args.input.now in
-    rw (malformed input _ _ _ c.read_number.ensures c.in_default.is)
-
-pub returns-in_default-read_number : goal.returns-in_default-read_number
-unfolding read_event
-returns-in_default-read_number c =
-    let input = c.args.input.now in
-    rw (
-      found input _ _ _ c.read_number.ensures _ _ c.in-Found.is,
-      malformed input _ _ _ c.read_number-2.ensures c.in_default-read_number.is,
-    )
-
-pub returns-in_default-read_number-2 : goal.returns-in_default-read_number-2
-unfolding read_event
-returns-in_default-read_number-2 c =
-    let input = c.args.input.now in
-    rw (
-      found input _ _ _ c.read_number.ensures _ _ c.in-Found.is,
-      found input _ _ _ c.read_number-2.ensures _ _ c.in-Found-read_number.is,
-      malformed input _ _ _ c.read_number-3.ensures c.in_default-read_number-2.is,
-    )
-
-pub returns-in_default-read_number-3 : goal.returns-in_default-read_number-3
-unfolding read_event
-returns-in_default-read_number-3 c =
-    let input = c.args.input.now in
-    rw (
-      found input _ _ _ c.read_number.ensures _ _ c.in-Found.is,
-      found input _ _ _ c.read_number-2.ensures _ _ c.in-Found-read_number.is,
-      found input _ _ _ c.read_number-3.ensures _ _ c.in-Found-read_number-2.is,
-      malformed input _ _ _ c.read_number-4.ensures c.in_default-read_number-3.is,
-    )
-
-pub returns-in_default-read_number-4 : goal.returns-in_default-read_number-4
-unfolding read_event
-returns-in_default-read_number-4 c =
-    let input = c.args.input.now in
-    rw (
-      found input _ _ _ c.read_number.ensures _ _ c.in-Found.is,
-      found input _ _ _ c.read_number-2.ensures _ _ c.in-Found-read_number.is,
-      found input _ _ _ c.read_number-3.ensures _ _ c.in-Found-read_number-2.is,
-      found input _ _ _ c.read_number-4.ensures _ _ c.in-Found-read_number-3.is,
-      malformed input _ _ _ c.read_number-5.ensures c.in_default-read_number-4.is,
-    )
-
-pub returns-in_default-read_number-5 : goal.returns-in_default-read_number-5
-unfolding read_event
-returns-in_default-read_number-5 c =
-    let input = c.args.input.now in
-    rw (
-      found input _ _ _ c.read_number.ensures _ _ c.in-Found.is,
-      found input _ _ _ c.read_number-2.ensures _ _ c.in-Found-read_number.is,
-      found input _ _ _ c.read_number-3.ensures _ _ c.in-Found-read_number-2.is,
-      found input _ _ _ c.read_number-4.ensures _ _ c.in-Found-read_number-3.is,
-      found input _ _ _ c.read_number-5.ensures _ _ c.in-Found-read_number-4.is,
-      malformed input _ _ _ c.read_number-6.ensures c.in_default-read_number-5.is,
-    )
+pub returns-in_err-kind : goal.returns-in_err-kind
+returns-in_err-kind c = rw c.from_residual.ensures (event_from _ none c.in_err-kind.ensures)
 
 pub returns : goal.returns
-unfolding read_event
-returns c =
-    let input = c.args.input.now in
-    rw (
-      found input _ _ _ c.read_number.ensures _ _ c.in-Found.is,
-      found input _ _ _ c.read_number-2.ensures _ _ c.in-Found-read_number.is,
-      found input _ _ _ c.read_number-3.ensures _ _ c.in-Found-read_number-2.is,
-      found input _ _ _ c.read_number-4.ensures _ _ c.in-Found-read_number-3.is,
-      found input _ _ _ c.read_number-5.ensures _ _ c.in-Found-read_number-4.is,
-      found input _ _ _ c.read_number-6.ensures _ _ c.in-Found-read_number-5.is,
-    )
+returns c = event_from _ (some _) c.in_ok-kind.ensures

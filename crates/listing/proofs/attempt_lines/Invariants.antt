@@ -1,17 +1,11 @@
 -- What the loops of `listing::attempt_lines` keep, and why they end.
-use mathlib.Core.Path.{◌≡◌}
-use Prim.Native.Nat.{◌+◌, ◌-◌}
-use lib.ListN.{length}
-use Rattle.table.specs.Table.{view}
+use Prim.Native.Nat.{◌-◌}
 use Rattle.protocol.specs.Cells.{row_of}
-use Rattle.listing.specs.Listing.{result_line}
-use Rattle.listing.proofs.Endings.{Written}
+use Rattle.table.specs.Table.{view}
+use Rattle.text.specs.Lent.{Continues}
+use Rattle.listing.specs.Listing.{result_line, for_each}
 use Rattle.listing.proofs.attempt_lines.Given as goal
 
 abbrev pub invariant-loop-attempt : goal.invariant-loop-attempt
 invariant-loop-attempt l =
-    (length l.out ≡ length l.initial.out)
-    × Written l.counts.attempts (λ k. result_line l.client k (row_of (view l.counts l.table) l.client k)) (record { cells = l.initial.out; at = l.start }) l.attempt (record { cells = l.out; at = l.at })
-
-abbrev pub decreases-loop-attempt : goal.decreases-loop-attempt
-decreases-loop-attempt l = l.counts.attempts + 1 - l.attempt
+    Continues l.initial.page l.page (for_each (l.attempt - 1) (λ k. result_line l.client k (row_of (view l.table.counts l.table.cells.now) l.client k)))

@@ -1,12 +1,10 @@
 -- `listing::client_lines` meets its contract.
-use mathlib.Core.Path.{refl, ◌∙◌}
 use native.Mathlib.Omega.{arith}
-use Rattle.listing.proofs.Endings.{none_written, one_written}
+use Rattle.listing.proofs.Endings.{one_put}
 use Rattle.listing.proofs.client_lines.Goals as goal
 
-pub loop-client-init : goal.loop-client-init
-loop-client-init c = (refl, none_written _ _ _)
-
 pub loop-client-preserved : goal.loop-client-preserved
-loop-client-preserved c =
-    (c.client_line-at.auto.out ∙ c.loop-client.invariant.0, one_written _ _ _ _ _ _ c.loop-client.invariant.1 (omega arith) c.client_line-at.ensures)
+loop-client-preserved c = one_put _ _ _ _ _ _ (omega arith) (omega arith) c.loop-client.invariant c.client_line.ensures
+
+pub returns-2 : goal.returns-2
+returns-2 c = one_put _ _ _ _ _ _ (omega arith) (omega arith) c.loop-client.invariant c.client_line.ensures

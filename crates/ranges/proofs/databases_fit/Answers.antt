@@ -1,18 +1,8 @@
 -- `ranges::databases_fit` meets its contract.
-use mathlib.Core.Path.{sym, ◌∙◌}
-use native.Mathlib.Omega.{arith}
-use Rattle.ranges.proofs.Laws.{first, next, fails}
+use Rattle.std.proofs.Common.{rules}
+use borrow.Author.Tests.{tests}
+use Rattle.ranges.proofs.Laws.{all_ids}
 use Rattle.ranges.proofs.databases_fit.Goals as goal
 
-pub loop-database-init : goal.loop-database-init
-loop-database-init c = first _ _
-
-pub returns-then-not-database_fits : goal.returns-then-not-database_fits
-returns-then-not-database_fits c =
-    sym (fails c.loop-database.invariant (omega arith)
-    (sym c.database_fits.ensures ∙ c.if-not-database_fits.true))
-
-pub loop-database-preserved : goal.loop-database-preserved
-loop-database-preserved c =
-    next c.loop-database.invariant (omega arith)
-    (sym c.database_fits.ensures ∙ c.if-not-database_fits.false)
+pub returns : goal.returns
+returns c = all_ids _ _ _ _ c.all.ensures.runs c.new.ensures.start c.new.ensures.end c.new.ensures.exhausted (λ i b q k. search (rules, tests))

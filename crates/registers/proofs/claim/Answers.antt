@@ -2,8 +2,8 @@
 use Rattle.registers.proofs.Laws.{claim_takes, claim_refuses}
 use Rattle.registers.proofs.claim.Goals as goal
 
-pub returns-then-owner-eq0 : goal.returns-then-owner-eq0
-returns-then-owner-eq0 c = claim_takes c.args.register.now c.args.server c.if-owner-eq0.true
+pub returns-then-owner-ne0 : goal.returns-then-owner-ne0
+returns-then-owner-ne0 c = claim_refuses c.args.register.now c.args.server c.if-owner-ne0.true
 
-pub returns-else-owner-eq0 : goal.returns-else-owner-eq0
-returns-else-owner-eq0 c = claim_refuses c.args.register.now c.args.server c.if-owner-eq0.false
+pub returns : goal.returns
+returns c = claim_takes c.args.register.now c.args.server c.if-owner-ne0.false

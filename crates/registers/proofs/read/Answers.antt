@@ -1,20 +1,17 @@
--- `registers::read` meets its contract: its tests are those of `held`.
+-- `registers::read` meets its contract: its arms are those of `held`.
+use native.Mathlib.Omega.{arith}
 use borrow.Author.Tests.{eq-eqb, ne_eqb}
 use Rattle.registers.specs.Register.{held}
 use Rattle.registers.proofs.read.Goals as goal
 
-pub returns-then-outcome-eq0 : goal.returns-then-outcome-eq0
+pub returns-in-0 : goal.returns-in-0
 unfolding held
-returns-then-outcome-eq0 c = rw (eq-eqb c.args.outcome 0 c.if-outcome-eq0.true)
+returns-in-0 c = rw (eq-eqb c.args.outcome 0 c.in-0.is)
 
-pub returns-then-outcome-eq1 : goal.returns-then-outcome-eq1
+pub returns-in-1 : goal.returns-in-1
 unfolding held
-returns-then-outcome-eq1 c =
-    let outcome = c.args.outcome in
-    rw (ne_eqb outcome 0 c.if-outcome-eq0.false, eq-eqb outcome 1 c.if-outcome-eq1.true)
+returns-in-1 c = rw c.in-1.is
 
-pub returns : goal.returns
+pub returns-in_default : goal.returns-in_default
 unfolding held
-returns c =
-    let outcome = c.args.outcome in
-    rw (ne_eqb outcome 0 c.if-outcome-eq0.false, ne_eqb outcome 1 c.if-outcome-eq1.false)
+returns-in_default c = rw (ne_eqb c.args.outcome 0 (omega (arith, c.in_default)), ne_eqb c.args.outcome 1 (omega (arith, c.in_default)))

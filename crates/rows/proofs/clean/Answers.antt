@@ -1,20 +1,18 @@
 -- `rows::clean` meets its contract.
 use Rattle.table.specs.Table.{row_view}
-use Rattle.rows.proofs.Laws.{went, stayed}
 use Rattle.protocol.specs.Rules.{clean_rule}
+use Rattle.rows.proofs.Laws.{went, stayed}
 use Rattle.rows.proofs.clean.Goals as goal
 
-pub clean-answer-requires : goal.clean-answer-requires
-clean-answer-requires c = rw (c.load.ensures c.args.counts) c.requires.owner_in_mask
+pub clean-requires : goal.clean-requires
+clean-requires c = rw (c.load.ensures c.args.counts) c.requires.owner_in_mask
 
-pub returns-then-is_accepted : goal.returns-then-is_accepted
-returns-then-is_accepted c =
-    let n = c.args.counts in
-    let l = c.args.row.now in
-    went n l _ (clean_rule c.args.server c.args.suspected (row_view n l)) c.clean-answer.result _ (rw (c.load.ensures n) at c.clean-answer.ensures) c.is_accepted.ensures c.if-is_accepted.true (c.sweep.ensures n)
+pub returns-in_err-clean : goal.returns-in_err-clean
+returns-in_err-clean c =
+    stayed c.args.counts c.args.row.now (clean_rule c.args.server c.args.suspected (row_view c.args.counts c.args.row.now)) _ _
+    c.from_residual.ensures.1 (rw (c.load.ensures c.args.counts) at c.in_err-clean.ensures)
 
-pub returns-else-is_accepted : goal.returns-else-is_accepted
-returns-else-is_accepted c =
-    let n = c.args.counts in
-    let l = c.args.row.now in
-    stayed n l l (clean_rule c.args.server c.args.suspected (row_view n l)) c.clean-answer.result _ (rw (c.load.ensures n) at c.clean-answer.ensures) c.is_accepted.ensures c.if-is_accepted.false
+pub returns : goal.returns
+returns c =
+    went c.args.counts c.args.row.now (clean_rule c.args.server c.args.suspected (row_view c.args.counts c.args.row.now)) _
+    (rw (c.load.ensures c.args.counts) at c.in_ok-clean.ensures) (c.sweep.ensures c.args.counts)

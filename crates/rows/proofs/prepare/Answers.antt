@@ -1,17 +1,15 @@
 -- `rows::prepare` meets its contract.
 use Rattle.table.specs.Table.{row_view}
-use Rattle.rows.proofs.Laws.{went, stayed}
 use Rattle.protocol.specs.Rules.{prepare_rule}
+use Rattle.rows.proofs.Laws.{went, stayed}
 use Rattle.rows.proofs.prepare.Goals as goal
 
-pub returns-then-is_accepted : goal.returns-then-is_accepted
-returns-then-is_accepted c =
-    let n = c.args.counts in
-    let l = c.args.row.now in
-    went n l _ (prepare_rule c.args.database c.args.value (row_view n l)) c.prepare-answer.result _ (rw (c.load.ensures n) at c.prepare-answer.ensures) c.is_accepted.ensures c.if-is_accepted.true (c.cast.ensures n)
+pub returns-in_err-prepare : goal.returns-in_err-prepare
+returns-in_err-prepare c =
+    stayed c.args.counts c.args.row.now (prepare_rule c.args.database c.args.value (row_view c.args.counts c.args.row.now)) _ _
+    c.from_residual.ensures.1 (rw (c.load.ensures c.args.counts) at c.in_err-prepare.ensures)
 
-pub returns-else-is_accepted : goal.returns-else-is_accepted
-returns-else-is_accepted c =
-    let n = c.args.counts in
-    let l = c.args.row.now in
-    stayed n l l (prepare_rule c.args.database c.args.value (row_view n l)) c.prepare-answer.result _ (rw (c.load.ensures n) at c.prepare-answer.ensures) c.is_accepted.ensures c.if-is_accepted.false
+pub returns : goal.returns
+returns c =
+    went c.args.counts c.args.row.now (prepare_rule c.args.database c.args.value (row_view c.args.counts c.args.row.now)) _
+    (rw (c.load.ensures c.args.counts) at c.in_ok-prepare.ensures) (c.cast.ensures c.args.counts)

@@ -2,8 +2,5 @@
 use Rattle.rows.proofs.Laws.{settled}
 use Rattle.rows.proofs.settle.Goals as goal
 
-pub returns-in-Took : goal.returns-in-Took
-returns-in-Took c = λ n. settled c.args.row.now _ _ _ _ _ (c.offer-offered.ensures.cells n) (c.terminate.ensures n)
-
-pub returns-in-Held : goal.returns-in-Held
-returns-in-Held c = λ n. settled c.args.row.now _ _ _ _ _ (c.offer-offered.ensures.cells n) (c.terminate-in-Held.ensures n)
+pub returns : goal.returns
+returns c = λ n. settled c.args.row.now _ _ _ _ _ (c.offer-in_hand.ensures.cells n) (c.terminate.ensures n)

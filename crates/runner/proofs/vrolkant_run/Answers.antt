@@ -1,35 +1,37 @@
 -- `runner::vrolkant_run` meets its contract: what the list says of its loop is in `Listed`. Each part of an answer is found among what is said, because
 -- a part that is not there is then refused at once, without a comparison of all that both sides compute to.
-use Rattle.runner.proofs.Listed.{starts, unsound, ended, refuses, accepts, checked}
+use mathlib.Core.Path.{refl, sym, ap, ◌∙◌}
+use Rattle.table.proofs.Soundness.{sound_when}
+use Rattle.runner.proofs.Listed.{starts, unsound, ended, refuses, accepts, some_number}
 use Rattle.runner.proofs.vrolkant_run.Goals as goal
 
-pub returns-then-first-ne0 : goal.returns-then-first-ne0
-returns-then-first-ne0 c =
-    let said = unsound c.args.table.now c.args.events.now c.check-first.result c.check-first.ensures c.if-first-ne0.true in
+pub returns-in-Err : goal.returns-in-Err
+returns-in-Err c =
+    let number = c.from.ensures in
+    let said = unsound c.args.table.now c.args.events.now _ (number ∙ c.in-Err.ensures) (λ zero. some_number _ (sym number ∙ zero)) in
     (assumption said, assumption said, assumption said)
 
-pub loop-i-init : goal.loop-i-init
-loop-i-init c =
-    starts c.args.table.now c.args.events.now
-    (checked c.args.table.now c.check-first.result c.check-first.ensures c.if-first-ne0.false)
+pub loop-accepted-init : goal.loop-accepted-init
+loop-accepted-init c = starts c.args.table.now c.args.events.now ((sound_when _).0 (sym c.in_default.ensures))
 
-pub returns-then-number-ne0 : goal.returns-then-number-ne0
-returns-then-number-ne0 c =
-    let said = refuses c.args.table.now c.args.events.now c.loop-i.i c.loop-i.table _ c.loop-i-test.true
-    c.step_sound-number.result c.step_sound-number.new.table c.step_sound-number.ensures
-    (checked c.args.table.now c.check-first.result c.check-first.ensures c.if-first-ne0.false)
-    c.loop-i.invariant c.if-number-ne0.true in
+pub apply_sound-requires : goal.apply_sound-requires
+apply_sound-requires c = c.loop-accepted.invariant.3
+
+pub returns-in-Err-apply_sound : goal.returns-in-Err-apply_sound
+returns-in-Err-apply_sound c =
+    let number = c.from-in-Err-apply_sound.ensures in
+    let said = refuses c.args.table.now c.args.events.now c.loop-accepted.accepted c.loop-accepted.table _ c.loop-accepted-test.true _ _
+    (ap (λ x. record { number = x; cells = c.apply_sound.new.table }) number ∙ c.in-Err-apply_sound.ensures)
+    ((sound_when _).0 (sym c.in_default.ensures)) c.loop-accepted.invariant (λ zero. some_number _ (sym number ∙ zero)) in
     (assumption said, assumption said, assumption said)
 
-pub loop-i-preserved : goal.loop-i-preserved
-loop-i-preserved c =
-    accepts c.args.table.now c.args.events.now c.loop-i.i c.loop-i.table _ c.loop-i-test.true
-    c.step_sound-number.result c.step_sound-number.new.table c.step_sound-number.ensures
-    c.loop-i.invariant c.if-number-ne0.false c.step_sound-number.auto.table
+pub loop-accepted-preserved : goal.loop-accepted-preserved
+loop-accepted-preserved c =
+    accepts c.args.table.now c.args.events.now c.loop-accepted.accepted c.loop-accepted.table _ c.loop-accepted-test.true _ _
+    c.in_default-apply_sound.ensures c.loop-accepted.invariant refl c.apply_sound.auto.table
 
 pub returns : goal.returns
 returns c =
-    let said = ended c.args.table.now c.args.events.now c.loop-i.i c.loop-i.table
-    (checked c.args.table.now c.check-first.result c.check-first.ensures c.if-first-ne0.false)
-    c.loop-i.invariant c.loop-i-test.false in
+    let said = ended c.args.table.now c.args.events.now c.loop-accepted.accepted c.loop-accepted.table
+    ((sound_when _).0 (sym c.in_default.ensures)) c.loop-accepted.invariant c.loop-accepted-test.false in
     (assumption said, assumption said, assumption said)

@@ -6,17 +6,13 @@ use Rattle.text.proofs.read_digits.Goals as goal
 
 pub returns-then-not-reads_on : goal.returns-then-not-reads_on
 returns-then-not-reads_on c =
-    let input = c.args.input.now in
-    sym (c.loop-at.invariant.1 ∙ digits_end input _ _ (omega arith) (sym c.reads_on.ensures ∙ c.if-not-reads_on.true))
+    sym (c.loop-byte.invariant.1 ∙ rw c.in-Some.ensures.cases.0 (digits_end _ _ _ (sym c.reads_on.ensures ∙ c.if-not-reads_on.true)))
 
-pub loop-at-preserved : goal.loop-at-preserved
-loop-at-preserved c =
-    let input = c.args.input.now in
+pub loop-byte-preserved : goal.loop-byte-preserved
+loop-byte-preserved c =
     let goes = sym c.reads_on.ensures ∙ c.if-not-reads_on.false in
-    let bounds = taken_bounds input c.loop-at.value c.loop-at.at goes in
-    (omega arith, c.loop-at.invariant.1 ∙ digit_taken input _ _ (omega arith) goes)
+    let bounds = taken_bounds c.loop-byte.value c.in-Some.byte.now c.in-Some.behind.now goes in
+    (omega arith, c.loop-byte.invariant.1 ∙ rw c.in-Some.ensures.cases.0 (digit_taken _ _ _ goes))
 
 pub returns : goal.returns
-returns c =
-    let input = c.args.input.now in
-    sym (c.loop-at.invariant.1 ∙ digits_none input c.loop-at.value c.loop-at.at (omega arith))
+returns c = sym (c.loop-byte.invariant.1 ∙ digits_none _ _ c.in_default.ensures.cases)
