@@ -167,11 +167,11 @@ module _ (n : Counts) (t : List ℕ) (e : Event) where
 none_most : (m id : ℕ) → T (eqb id 0) → id ≤ m
 none_most m id t = omega (arith, eqb→eq id 0 t)
 
-module _ (n : Counts) (e : Event) (k : ℕ) (is : e.kind ≡ k) (ofRows : of_row k ≡ true) (fits : every (fields n e) ≡ true)
+module _ (n : Counts) (e : Event) (k : ℕ) (is : e.kind ≡ k) (of_rows : of_row k ≡ true) (fits : every (fields n e) ≡ true)
     (c : T (inside n.clients e.client)) (a : T (inside n.attempts e.attempt)) where
   pub by_server : T (inside n.servers e.server) → T (eqb e.database 0) → Follows n e
   by_server i d = record {
-    kind = ap of_row is ∙ ofRows;
+    kind = ap of_row is ∙ of_rows;
     fits = fits;
     client = c;
     attempt = a;
@@ -181,7 +181,7 @@ module _ (n : Counts) (e : Event) (k : ℕ) (is : e.kind ≡ k) (ofRows : of_row
 
   pub by_database : T (eqb e.server 0) → T (inside n.databases e.database) → Follows n e
   by_database i d = record {
-    kind = ap of_row is ∙ ofRows;
+    kind = ap of_row is ∙ of_rows;
     fits = fits;
     client = c;
     attempt = a;
@@ -191,7 +191,7 @@ module _ (n : Counts) (e : Event) (k : ℕ) (is : e.kind ≡ k) (ofRows : of_row
 
   pub by_both_parties : T (inside n.servers e.server) → T (inside n.databases e.database) → Follows n e
   by_both_parties i d = record {
-    kind = ap of_row is ∙ ofRows;
+    kind = ap of_row is ∙ of_rows;
     fits = fits;
     client = c;
     attempt = a;

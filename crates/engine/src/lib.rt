@@ -16,6 +16,9 @@ use protocol::{Answer, Counts, Event, Kind, Refusal};
 
 // ---- 5: the parties that act
 
+// Kinds are a closed set, so what acts and what follows are matches over them. The kind goes beside its event: a struct of the two would be made here
+// and again in `rules::at_row`, which takes the event alone.
+
 // Whether the parties that act in the event are up: client in 1, 2, 14, 17; server in 3, 4, 6 to 11, 13, 15; database in 5, 12, 16;
 // none in 18.
 fn parties_up(table: Table, kind: Kind, event: Event) -> bool
@@ -148,7 +151,7 @@ pub fn apply(table: &mut [u16], event: Event) -> Answer
     apply_sound(table, event)
 }
 
-// ---- the same with numbers for answers, as C takes them; `Contracts` and `Determinacy` of the crate promises speak of these three
+// ---- the same with numbers for answers, as C takes them; `Contracts` and `Determinacy` of the crate promises speak of the first three
 
 // The paper's number of an answer.
 pub fn number(answer: Answer) -> u16
@@ -172,4 +175,12 @@ pub fn step(table: &mut [u16], event: Event) -> u16
     ensures { (result ≡ (applied table.old event).number) × (table.new ≡ (applied table.old event).cells) }
 {
     number(apply(table, event))
+}
+
+// One event on a table that is sound, with its number for an answer. It is not exported.
+pub fn step_sound(table: &mut [u16], event: Event) -> u16
+    requires { T (sound table.old) }
+    ensures { (result ≡ (applied table.old event).number) × (table.new ≡ (applied table.old event).cells) }
+{
+    number(apply_sound(table, event))
 }

@@ -19,7 +19,8 @@ fn write_header(table: &mut [u16], counts: Counts)
     table[3] = counts.attempts;
 }
 
-// The up cells of all parties of one sort, each `width` cells behind the one before.
+// The up cells of all parties of one sort, each `width` cells behind the one before. They are counted from the first one's place in the table, since a
+// part of it would have to be put back for each sort.
 #[tactic(auto, using(crate::proofs::Laws::raised_more))]
 fn raise(table: &mut [u16], start: usize, width: usize, count: u16)
     requires { (1 ≤ width) × (start + width * count ≤ length table.old) }

@@ -1,7 +1,7 @@
 // What the rules of a row ask: the row as a struct, read from the lent cells, and a gate for each rule.
 #![tactic(auto)]
 
-ghost use Rattle.std.specs.Prelude.{◌≡◌, ◌&&◌, ◌≤◌, Some, cond, eqb, length};
+ghost use Rattle.std.specs.Prelude.{◌≡◌, ◌&&◌, ◌≤◌, cond, eqb, length};
 ghost use Rattle.protocol.specs.declared.Counts.{Counts};
 ghost use Rattle.protocol.specs.Rules.{listens, verdict, request_rule, compute_rule, prepare_rule, vote_rule, ready_rule, write_rule, clean_rule, decide_rule};
 ghost use Rattle.protocol.specs.Answers.{answer_number};
@@ -52,6 +52,13 @@ pub struct Row {
     pub terminating: u16,
     pub decided: u16,
     pub committed: u16,
+}
+
+// Whether the answer is that the event is accepted.
+pub fn is_accepted(answer: Answer) -> bool
+    ensures { result ≡ eqb (answer_number answer) 0 }
+{
+    answer.is_ok()
 }
 
 // A message arrives that was sent if this holds.

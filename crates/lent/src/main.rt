@@ -6,7 +6,7 @@ ghost use Rattle.std.specs.Prelude.{◌≤◌, ◌<◌, length, IfSome};
 use layout::HEADER;
 use protocol::Event;
 use std::io::{self, Write};
-use text::Page;
+use text::{NEWLINE, Page, SPACE};
 
 // The letters of the lines with a number: of an event alone, and of the list.
 const EVENT: u8 = b'E';
@@ -16,8 +16,10 @@ const LIST: u8 = b'L';
 // The events behind these are not looked at.
 const MOST_EVENTS: u16 = 999;
 
-// Room for the cells of a table that is too long; memory is fixed.
+// Room for the cells of a table that is too long, and for an input or what is printed of it; memory is fixed.
 const ROOM: usize = 4000;
+
+const TEXT: usize = 65536;
 
 // ---- the table's line
 
@@ -30,11 +32,11 @@ fn read_cells<'a>(input: &'a [u8], room: &mut [u16]) -> Option<(usize, &'a [u8])
     }
     let mut rest = input;
     for (count, cell) in room.iter_mut().enumerate() {
-        if let Some((last, behind)) = text::read_number(rest, b'\n') {
+        if let Some((last, behind)) = text::read_number(rest, NEWLINE) {
             *cell = last;
             return Some((count + 1, behind));
         }
-        let (number, behind) = text::read_number(rest, b' ')?;
+        let (number, behind) = text::read_number(rest, SPACE)?;
         *cell = number;
         rest = behind;
     }
@@ -68,20 +70,24 @@ fn ends_part(table: &[u16], place: usize) -> bool
 // Every cell, a line for each part of the table.
 fn put_cells(page: &mut Page, table: &[u16]) {
     for (place, cell) in table.iter().enumerate() {
-        let end = if ends_part(table, place) { b'\n' } else { b' ' };
+        let end = if ends_part(table, place) {
+            NEWLINE
+        } else {
+            SPACE
+        };
         page.put_number(*cell, end);
     }
 }
 
 // A line with two numbers, and the table.
 fn print_table(rt: &HostRuntime, letter: u8, first: u16, second: u16, table: &[u16]) {
-    let mut out = [0; 65536];
+    let mut out = [0; TEXT];
     let mut page = Page {
         room: &mut out,
         end: 0,
     };
     page.put(letter);
-    page.put(b' ');
+    page.put(SPACE);
     lines::put_place(&mut page, first, second);
     put_cells(&mut page, table);
     let mut output = io::writer(rt);
@@ -148,7 +154,7 @@ fn main(rt: HostRuntime) {
         let Some(mut file) = printing::open_stored(&rt, number) else {
             return;
         };
-        let mut input = [0; 65536];
+        let mut input = [0; TEXT];
         if let Ok(length) = printing::read_input(&mut file, &mut input) {
             play(&rt, &input[..length]);
         }

@@ -1,9 +1,8 @@
 // Reads an input, writes its listing to standard output, and opens the stored inputs of a program one by one.
 #![tactic(auto)]
 
-ghost use Rattle.std.specs.Prelude.{◌≡◌, ℕ, ◌+◌, ◌/◌, ◌%◌, ◌<◌, ◌≤◌, length, take, IfOk, OnErr};
+ghost use Rattle.std.specs.Prelude.{ℕ, ◌<◌, ◌≤◌, length, take, IfOk, OnErr};
 ghost use Rattle.std.specs.Io.KnownBytes.{Consumes, IsAtEnd};
-ghost use Rattle.text.specs.Writing.{zero_digit};
 
 use std::fs::File;
 use std::io::{self, Read, Write};
@@ -56,17 +55,9 @@ pub fn print_listing<R: Print + Eprint, F: Read>(rt: &R, input: &mut F, name: &s
     }
 }
 
-// The digit of a number at a place.
-fn digit(number: u16, place: u16) -> u8
-    requires { 1 ≤ place }
-    ensures { result ≡ zero_digit + number / place % 10 }
-{
-    b'0' + (number / place % 10) as u8
-}
-
 // Opens the stored input of a number, in the file that three digits name, and prints a line with the name; nothing where there is none.
 pub fn open_stored<R: Files + Print>(rt: &R, number: u16) -> Option<R::File> {
-    let digits = [digit(number, 100), digit(number, 10), digit(number, 1)];
+    let digits = [number / 100, number / 10, number].map(|part| b'0' + (part % 10) as u8);
     let name = str::from_utf8(&digits).ok()?;
     let file = File::open(rt, name).ok()?;
     // a line that cannot be written is missed in what the program prints

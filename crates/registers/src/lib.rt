@@ -11,6 +11,8 @@ pub enum Decision {
     Abort,
 }
 
+// The register is two cells, so what it holds is read off both and written to both by these three; `From` takes one.
+
 // What the register holds whose two cells are an outcome and a value.
 pub fn read(outcome: u16, value: u16) -> Option<Decision>
     ensures { result ≡ held outcome value }

@@ -1,5 +1,7 @@
 // The rules that ask and write the row of one result alone, over the row's part of the table, lent by itself as cells beside the counts (`Lent`).
-// Each rule is called at one place, with the numbers of an event, so what it asks of them stands at the rule and in no type.
+// It is passed as a `&mut` of cells: in a struct over that reference each rule would owe two clauses more, that the reference and the counts stay.
+// What a private store asks is that the thirteen fixed cells are there, which `Lent` says and an array's type could not of a slice's start.
+// A number of a party is held to the counts at the rule, which is called at one place with the numbers of an event.
 #![tactic(auto)]
 
 ghost use Rattle.std.specs.Prelude.{◌≡◌, false, not, ◌&&◌, [], ◌∷◌, ◌≤◌, Some, length};
@@ -92,7 +94,7 @@ fn hear(row: &mut [u16], listening: bool, database: u16, yes: bool)
     }
 }
 
-// The server terminates the result with a decision in hand, whichever it is.
+// The server terminates the result with a decision in hand, whichever it is: nobody may terminate without one.
 fn terminate(row: &mut [u16], server: u16, _in_hand: Decision)
     requires fixed_cells { 13 ≤ length row.old }
     requires server_in_mask { (1 ≤ server) × (server ≤ 16) }
@@ -134,7 +136,7 @@ fn sweep(row: &mut [u16], server: u16)
     terminate(row, server, in_hand);
 }
 
-// An undecided database decides by the outcome.
+// An undecided database decides by the outcome; the rule asks that cell alone, so it is asked as the number it is.
 fn obey(row: &mut [u16], database: u16)
     requires fixed_cells { 13 ≤ length row.old }
     requires database_in_mask { (1 ≤ database) × (database ≤ 16) }

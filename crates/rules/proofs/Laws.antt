@@ -11,7 +11,7 @@ use lib.ListN.{length, get_or, set, length-set}
 use Rattle.lists.specs.Tests.{every, All, inside}
 use Rattle.lists.specs.Parts.{part, put_back}
 use Rattle.lists.proofs.Parts.{put_back_part}
-use Rattle.lists.proofs.Choice.{by_cond, by_both, by_eq, inside_low, inside_high, every_all, true_T, in_inside}
+use Rattle.lists.proofs.Choice.{by_cond, by_both, by_eq, inside_low, inside_high, every_all, true_T}
 use Rattle.masks.specs.Mask.{has_all}
 use Rattle.registers.specs.Register.{held}
 use Rattle.registers.specs.declared.Decision.{Decision}
@@ -34,7 +34,7 @@ use Rattle.table.specs.Table.{view, set_all, set_fields, row_view}
 use Rattle.table.specs.Jobs.{Done}
 use Rattle.table.proofs.Places.{row_end, length_most}
 use Rattle.table.proofs.View.{Exist, FieldsExist, view_set_all}
-use Rattle.table.proofs.Lent.{row_view_lem, row_fits, row_long, lent_writes}
+use Rattle.table.proofs.Lent.{row_view_lem, row_fits, lent_writes}
 use Rattle.layout.specs.Ranged.{Ranged}
 use Rattle.layout.proofs.Laws.{ranged_tests, server_inside, database_inside, client_inside, view_cell, phase_place, attempt_place, request_place, delivered_place}
 use Rattle.gates.specs.Gates.{given}
@@ -131,7 +131,7 @@ cell_at n t m at x e = ap (λ p. get_or t p 0) e ∙ sym (view_cell n t m x)
 
 -- ---- a row's rule, on the row lent by itself
 
-module _ (n : Counts) (t : List ℕ) (c k : ℕ) (long : length t ≡ table_length n) (cIn : T (inside n.clients c)) (kIn : T (inside n.attempts k)) where
+module _ (n : Counts) (t : List ℕ) (c k : ℕ) (long : length t ≡ table_length n) (client_in : T (inside n.clients c)) (attempt_in : T (inside n.attempts k)) where
   lent : List ℕ
   lent = part (row_start n c k) (row_length n) t
 
@@ -139,47 +139,44 @@ module _ (n : Counts) (t : List ℕ) (c k : ℕ) (long : length t ≡ table_leng
   written_back : (ws : RowWrites) → FieldsExist n ws → (b : Bool)
       → put_back (row_start n c k) (row_length n) t (cond b (set_fields n lent ws) lent) ≡ cond b (set_all n t (in_row c k ws)) t
   unfolding lent
-  written_back ws exist true = lent_writes n t c k long cIn kIn ws exist
-  written_back ws exist false = put_back_part (row_start n c k) (row_length n) t (row_fits n t c k long cIn kIn)
+  written_back ws exist true = lent_writes n t c k long client_in attempt_in ws exist
+  written_back ws exist false = put_back_part (row_start n c k) (row_length n) t (row_fits n t c k long client_in attempt_in)
 
-  at_result_lem : (ruleOf : Row → RowRule) → ((r : Row) → FieldsExist n (ruleOf r).writes) → (number : ℕ) (cells : List ℕ)
-      → ◌≡◌ {A = Done} (record { number = number; cells = cells }) (stepped n lent (ruleOf (row_view n lent)))
-      → ◌≡◌ {A = Done} (record { number = number; cells = put_back (row_start n c k) (row_length n) t cells }) (ruled n t (at_result c k (ruleOf (row_of (view n t) c k))))
+  at_result_lem : (rule_of : Row → RowRule) → ((r : Row) → FieldsExist n (rule_of r).writes) → (number : ℕ) (cells : List ℕ)
+      → ◌≡◌ {A = Done} (record { number = number; cells = cells }) (stepped n lent (rule_of (row_view n lent)))
+      → ◌≡◌ {A = Done} (record { number = number; cells = put_back (row_start n c k) (row_length n) t cells }) (ruled n t (at_result c k (rule_of (row_of (view n t) c k))))
   unfolding lent
-  at_result_lem ruleOf exist number cells e =
-      let rule = ruleOf (row_view n lent) in
+  at_result_lem rule_of exist number cells e =
+      let rule = rule_of (row_view n lent) in
       ap (λ (d : Done). record { number = d.number; cells = put_back (row_start n c k) (row_length n) t d.cells }) e
       ∙ ap (λ x. record { number = given rule; cells = x }) (written_back rule.writes (exist (row_view n lent)) (eqb (given rule) 0))
-      ∙ ap (λ r. ruled n t (at_result c k (ruleOf r))) (sym (row_view_lem n t c k long cIn kIn))
+      ∙ ap (λ r. ruled n t (at_result c k (rule_of r))) (sym (row_view_lem n t c k long client_in attempt_in))
 
   -- what is lent, where the code computed the row's start and length
-  module _ (start width : ℕ) (eStart : start ≡ row_start n c k) (eWidth : width ≡ row_length n) where
-    pub lent_long : length (part start width t) ≡ row_length n
-    lent_long = rw (eStart, eWidth) (row_long n t c k long cIn kIn)
-
+  module _ (start width : ℕ) (start_is : start ≡ row_start n c k) (width_is : width ≡ row_length n) where
     pub lent_owner : T (in_range n (view n t)) → n.servers ≤ 8 → row_view n (part start width t) owner ≤ 16
     lent_owner range few =
-        let tests = (range_facts n (view n t) range).rows c k cIn kIn in
+        let tests = (range_facts n (view n t) range).rows c k client_in attempt_in in
         let most : view n t (row c k owner) ≤ 16 = omega (arith, leb→le (view n t (row c k owner)) n.servers tests.0) in
-        rw (eStart, eWidth) (subst (λ r. r owner ≤ 16) (row_view_lem n t c k long cIn kIn) most)
+        rw (start_is, width_is) (subst (λ r. r owner ≤ 16) (row_view_lem n t c k long client_in attempt_in) most)
 
-  pub lent_rule : (ruleOf : Row → RowRule) → ((r : Row) → FieldsExist n (ruleOf r).writes) → (number start width : ℕ) (cells : List ℕ)
+  pub lent_rule : (rule_of : Row → RowRule) → ((r : Row) → FieldsExist n (rule_of r).writes) → (number start width : ℕ) (cells : List ℕ)
       → start ≡ row_start n c k → width ≡ row_length n
-      → ◌≡◌ {A = Done} (record { number = number; cells = cells }) (stepped n (part start width t) (ruleOf (row_view n (part start width t))))
-      → ◌≡◌ {A = Done} (record { number = number; cells = put_back start width t cells }) (ruled n t (at_result c k (ruleOf (row_of (view n t) c k))))
+      → ◌≡◌ {A = Done} (record { number = number; cells = cells }) (stepped n (part start width t) (rule_of (row_view n (part start width t))))
+      → ◌≡◌ {A = Done} (record { number = number; cells = put_back start width t cells }) (ruled n t (at_result c k (rule_of (row_of (view n t) c k))))
   unfolding lent
-  lent_rule ruleOf exist number start width cells eStart eWidth e =
-      rw (eStart, eWidth) (at_result_lem ruleOf exist number cells (rw (eStart, eWidth) at e))
+  lent_rule rule_of exist number start width cells start_is width_is e =
+      rw (start_is, width_is) (at_result_lem rule_of exist number cells (rw (start_is, width_is) at e))
 
   -- the same of writes that no test guards
   pub lent_effect : (writes_of : Row → RowWrites) → ((r : Row) → FieldsExist n (writes_of r)) → (start width : ℕ) (cells : List ℕ)
       → start ≡ row_start n c k → width ≡ row_length n → cells ≡ set_fields n (part start width t) (writes_of (row_view n (part start width t)))
       → put_back start width t cells ≡ set_all n t (in_row c k (writes_of (row_of (view n t) c k)))
   unfolding lent
-  lent_effect writes_of exist start width cells eStart eWidth e =
-      rw (eStart, eWidth) (ap (put_back (row_start n c k) (row_length n) t) (rw (eStart, eWidth) at e)
-      ∙ lent_writes n t c k long cIn kIn (writes_of (row_view n lent)) (exist (row_view n lent))
-      ∙ ap (λ r. set_all n t (in_row c k (writes_of r))) (sym (row_view_lem n t c k long cIn kIn)))
+  lent_effect writes_of exist start width cells start_is width_is e =
+      rw (start_is, width_is) (ap (put_back (row_start n c k) (row_length n) t) (rw (start_is, width_is) at e)
+      ∙ lent_writes n t c k long client_in attempt_in (writes_of (row_view n lent)) (exist (row_view n lent))
+      ∙ ap (λ r. set_all n t (in_row c k (writes_of r))) (sym (row_view_lem n t c k long client_in attempt_in)))
 
 -- ---- writes to parties' cells, then to a row that they do not touch
 
@@ -262,7 +259,7 @@ row_rule_asks n e asked isReady suspected r as_ready as_suspected =
 
 -- every rule of a row writes cells that there are, if its server is one
 pub row_rule_exists : (n : Counts) (e : Event) (isReady suspected : ℕ) → of_row e.kind ≡ true → every (fields n e) ≡ true → (r : Row) → FieldsExist n (row_rule n e isReady suspected r).writes
-row_rule_exists n e isReady suspected ofRows fit r =
+row_rule_exists n e isReady suspected of_rows fit r =
     let i = e.server in
     let d = e.database in
     let k = e.kind in
@@ -282,7 +279,7 @@ row_rule_exists n e isReady suspected ofRows fit r =
     by_cond P (eqb k 11) (clean_rule i suspected r) decision (λ t. (tt, (tt, (tt, tt)))) (λ g.
     by_cond P (eqb k 12) (decide_rule i d r) (ack_rule i d r) (λ t. (tt, (tt, ((at_kind n e 12 (eqb→eq k 12 t) fit).1.1.0, tt)))) (λ h.
     by_eq k 13 (λ is. ((at_kind n e 13 is fit).1.1.0, tt))
-    (λ other. absurd (no_row k (differs k 3 a) (differs k 4 b) (differs k 5 c) (differs k 6 d') (differs k 7 e') (differs k 8 f) (differs k 11 g) (differs k 12 h) other ofRows))))))))))
+    (λ other. absurd (no_row k (differs k 3 a) (differs k 4 b) (differs k 5 c) (differs k 6 d') (differs k 7 e') (differs k 8 f) (differs k 11 g) (differs k 12 h) other of_rows))))))))))
   where
     P : RowRule → Type 0
     P rule = FieldsExist n rule.writes
@@ -297,10 +294,10 @@ range_width start end first width e f = omega (arith, e, f)
 -- ---- rule 14
 
 -- what the lent row holds is what the state holds of the result
-module _ (n : Counts) (t : List ℕ) (c k : ℕ) (long : length t ≡ table_length n) (cIn : T (inside n.clients c)) (kIn : T (inside n.attempts k))
-    (start width : ℕ) (eStart : start ≡ row_start n c k) (eWidth : width ≡ row_length n) where
+module _ (n : Counts) (t : List ℕ) (c k : ℕ) (long : length t ≡ table_length n) (client_in : T (inside n.clients c)) (attempt_in : T (inside n.attempts k))
+    (start width : ℕ) (start_is : start ≡ row_start n c k) (width_is : width ≡ row_length n) where
   pub lent_cell : (f : Field) → row_view n (part start width t) f ≡ view n t (row c k f)
-  lent_cell f = rw (eStart, eWidth) (ap (λ (r : Row). r f) (sym (row_view_lem n t c k long cIn kIn)))
+  lent_cell f = rw (start_is, width_is) (ap (λ (r : Row). r f) (sym (row_view_lem n t c k long client_in attempt_in)))
 
   pub result_number : (i : ℕ) → result_given n i (row_view n (part start width t)) ≡ rule_number (result_rule n (view n t) c k i)
   result_number i = ap₂ (λ (o m : ℕ). cond (every (ltb 0 o ∷ has_all n.databases m ∷ [])) 0 6) (lent_cell outcome) (lent_cell (known i))
@@ -325,6 +322,3 @@ pub advanced : (n : Counts) (t : List ℕ) (long : length t ≡ table_length n) 
 advanced n t long c k at x e q f =
     f ∙ after_parties n t (set t (at + 2) (k + 1)) long ((attempt c, k + 1) ∷ []) (x, tt) (ap (λ p. set t p (k + 1)) (attempt_at n t long c at x e)) c (k + 1) calls refl
     ∙ ap (λ (j : ℕ). set_all n t ((attempt c, j) ∷ in_row c j (calls (row_of (view n t) c j)))) (add-one k)
-
-pub next_in : (m k : ℕ) → T (inside m k) → (k ≡ m → ⊥) → T (inside m (k + 1))
-next_in m k x ne = in_inside m (k + 1) (omega arith) (omega (arith, inside_high m k x, ne))

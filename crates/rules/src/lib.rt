@@ -1,8 +1,9 @@
 // The rules over the whole table: the kinds of a row, on the row lent by itself, and one function for each kind of the parties.
-// The table is written as lent cells beside its counts (`Held`): between two stores of one rule it need not be sound, so no type could promise it.
+// The table is a lent `&mut` of cells beside its counts (`Held`), as the row is in `rows` and for the reason given there; between two stores of one rule
+// it need not even be in range.
 #![tactic(auto, using(crate::proofs::Laws::client_sum, crate::proofs::Laws::client_offset, crate::proofs::Laws::client_cell, crate::proofs::Laws::database_sum, crate::proofs::Laws::database_offset, crate::proofs::Laws::database_cell, crate::proofs::Laws::server_sum, crate::proofs::Laws::server_offset, crate::proofs::Laws::server_cell, crate::proofs::Laws::still_long))]
 
-ghost use Rattle.std.specs.Prelude.{◌≡◌, [], ◌∷◌, ◌≤◌, T, length};
+ghost use Rattle.std.specs.Prelude.{◌≡◌, [], ◌∷◌, ◌≤◌, T};
 ghost use Rattle.lists.specs.Tests.{inside};
 ghost use Rattle.masks.specs.Mask.{all, put};
 ghost use Rattle.protocol.specs.Cells.{owner, sent, ready, suspects, phase, delivered, row_of, in_row};
@@ -20,7 +21,7 @@ use registers::Decision;
 
 // ---- the row of a result, lent by itself
 
-// The rule of a row's kind; `asked` is what that rule asks of a party: the ready cell of the event's database, or whom the event's server suspects.
+// A match over the nine kinds, each a rule function of its own; `asked` is what that rule asks of a party: the ready cell of the event's database, or whom the event's server suspects.
 fn follow_row(row: &mut [u16], counts: Counts, kind: Kind, event: Event, asked: u16) -> Answer
     requires lent { Lent counts row.old }
     requires follows { Follows counts event }
@@ -38,6 +39,7 @@ fn follow_row(row: &mut [u16], counts: Counts, kind: Kind, event: Event, asked: 
         Kind::Clean => rows::clean(row, counts, event.server, asked),
         Kind::DecideArrives => rows::decide(row, counts, event.server, event.database),
         Kind::AckArrives => rows::ack(row, counts, event.server, event.database),
+        // never reached: `at_row` asks that the kind is one of these nine
         _ => Err(Refusal::UnknownKind),
     }
 }

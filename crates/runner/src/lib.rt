@@ -1,4 +1,5 @@
-// The jobs over plain numbers, as C calls them (include/vrolkant.h): set up, one event, and the list of events. `runner_c` exports them.
+// The jobs over plain numbers, as C calls them (include/vrolkant.h): set up, one event, and the list of events. `runner_c` exports them:
+// a crate is built as a library or as an archive. They take and answer numbers, since that is what C declares.
 #![tactic(auto)]
 
 ghost use Rattle.std.specs.Prelude.{◌≡◌};
