@@ -16,9 +16,9 @@ wrong 5-in-recovery engine.c 'NOBODY, database_recovers}' 'DATABASE, database_re
 for kind in {1..14}; do
     wrong "5-behind-6-and-7-in-kind-$kind" engine.c 'if (!actor_is_up(kind->actor, &scene)) return PEER_PARTY_DOWN' "if (!actor_is_up(kind->actor, &scene)) {
         uint16_t lent[4000], number;
-        for (size_t place = 0; place < length; place++) lent[place] = table[place];
+        for (size_t place = 0; place < length_of(counts); place++) lent[place] = table[place];
         number = kind->rule(&scene);
-        for (size_t place = 0; place < length; place++) table[place] = lent[place];
+        for (size_t place = 0; place < length_of(counts); place++) table[place] = lent[place];
         return event->kind == $kind && number != PEER_ACCEPTED ? number : PEER_PARTY_DOWN;
     }"
 done
