@@ -151,7 +151,8 @@ pub fn apply(table: &mut [u16], event: Event) -> Answer
     apply_sound(table, event)
 }
 
-// ---- the same with numbers for answers, as C takes them; `Contracts` and `Determinacy` of the crate promises speak of the first three
+// ---- the same with numbers for answers; `number_meets`, `check_meets`, `step_meets`, `one_number`, `one_check` and `one_step` of the crate promises speak
+// of the first three
 
 // The paper's number of an answer.
 pub fn number(answer: Answer) -> u16
@@ -177,7 +178,7 @@ pub fn step(table: &mut [u16], event: Event) -> u16
     number(apply(table, event))
 }
 
-// One event on a table that is sound, with its number for an answer. It is not exported.
+// One event on a table that is sound, with its number for an answer: it was public and stands, though nothing here calls it.
 pub fn step_sound(table: &mut [u16], event: Event) -> u16
     requires { T (sound table.old) }
     ensures { (result ≡ (applied table.old event).number) × (table.new ≡ (applied table.old event).cells) }

@@ -54,12 +54,14 @@ pub struct Row {
     pub committed: u16,
 }
 
-// Whether the answer is that the event is accepted.
+// Whether the answer is that the event is accepted: it was public and stands, though `?` asks it here.
 pub fn is_accepted(answer: Answer) -> bool
     ensures { result ≡ eqb (answer_number answer) 0 }
 {
     answer.is_ok()
 }
+
+// The two words of a rule, each with its number.
 
 // A message arrives that was sent if this holds.
 pub fn sent_if(holds: bool) -> Answer
@@ -76,7 +78,7 @@ pub fn must(holds: bool) -> Answer
 }
 
 impl Row {
-    // The row that lies in the lent cells.
+    // The row that lies in the lent cells; that they are there is all it asks, and a slice's start has no type that says so.
     pub fn load(row: &[u16]) -> Row
         requires { 13 ≤ length row.now }
         ensures { (n : Counts) → result ≡ loaded n row.now }
@@ -97,7 +99,7 @@ impl Row {
         }
     }
 
-    // ---- what the rules ask
+    // ---- what the rules ask; a party is a number, for the reason that `masks` gives
 
     // 3. Sent if the server's bit is in the row.
     pub fn request(self, server: u16) -> Answer

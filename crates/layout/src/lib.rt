@@ -76,7 +76,7 @@ pub fn counts_fit(counts: Counts) -> bool
         && count_fits(counts.attempts, MOST_ATTEMPTS)
 }
 
-// ---- the parties, behind the header
+// ---- the parties, behind the header: each place is a sum of its own, with the name of its cell in its contract
 
 // Where the cells of a server start.
 #[tactic(auto, unfolding(table::specs::Layout::place))]

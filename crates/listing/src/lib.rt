@@ -46,7 +46,7 @@ fn client_lines(page: &mut Page, table: Table)
     }
 }
 
-// A row, lent by itself; without an owner it has no line.
+// A row, lent by itself; without an owner it has no line. It asks for its fixed cells, as `Row::load` does.
 fn row_line(page: &mut Page, row: &[u16], client: u16, attempt: u16)
     requires { 13 ≤ length row.now }
     ensures { (n : Setup) → Continues page.old page.new (result_line client attempt (row_view n row.now)) }

@@ -11,7 +11,8 @@ pub enum Decision {
     Abort,
 }
 
-// The register is two cells, so what it holds is read off both and written to both by these three; `From` takes one.
+// The register is two cells, so what it holds is read off both and written to both by these three; a `From`
+// between a pair of numbers and an option would be an impl on types of the library alone.
 
 // What the register holds whose two cells are an outcome and a value.
 pub fn read(outcome: u16, value: u16) -> Option<Decision>

@@ -1,6 +1,6 @@
 // The rules that ask and write the row of one result alone, over the row's part of the table, lent by itself as cells beside the counts (`Lent`).
 // It is passed as a `&mut` of cells: in a struct over that reference each rule would owe two clauses more, that the reference and the counts stay.
-// What a private store asks is that the thirteen fixed cells are there, which `Lent` says and an array's type could not of a slice's start.
+// A store asks for the thirteen fixed cells, whichever it touches, since `row_view` and `set_fields` name any of them.
 // A number of a party is held to the counts at the rule, which is called at one place with the numbers of an event.
 #![tactic(auto)]
 
@@ -23,7 +23,7 @@ use gates::{
 use protocol::{Answer, Counts};
 use registers::Decision;
 
-// ---- where the acknowledgements lie, behind the fixed cells
+// ---- where the acknowledgements lie, behind the fixed cells: two sums, each with the name of its cell in its contract
 
 // Those sent to a server.
 fn acked_at(server: u16) -> usize
@@ -41,7 +41,7 @@ fn known_at(counts: Counts, server: u16) -> usize
     COMMITTED + counts.servers as usize + server as usize
 }
 
-// ---- what rules write
+// ---- what rules write: each its own two cells, by a definition of its own
 
 // The request is sent to server 1.
 pub fn call(row: &mut [u16])

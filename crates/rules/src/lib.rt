@@ -44,7 +44,8 @@ fn follow_row(row: &mut [u16], counts: Counts, kind: Kind, event: Event, asked: 
     }
 }
 
-// What the rule of a row's kind asks of a party, and 0 where it asks nothing of one.
+// What the rule of a row's kind asks of a party, and 0 where it asks nothing of one: the number of a cell, by a match over the kinds, each beside its event
+// as in `engine`.
 fn asked_of_party(table: Table, kind: Kind, event: Event) -> u16
     requires follows { Follows table.counts event }
     requires kind_read { kind_number kind ≡ event.kind }

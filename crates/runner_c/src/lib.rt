@@ -1,4 +1,5 @@
-// The jobs of `runner` under the names by which C calls them (include/vrolkant.h), each with the clauses of the function that it calls.
+// The jobs of `runner` under the names by which C calls them (include/vrolkant.h), each with the clauses of the function that it calls:
+// a crate is built as a library or as an archive. Numbers are what C declares.
 #![tactic(auto)]
 
 ghost use Rattle.std.specs.Prelude.{◌≡◌};
