@@ -1,22 +1,18 @@
 -- The list job's invariant, with no word of the machine: i records of rs are accepted, ts are the cells after them, a sound table, and what is left to say of the rest of the list is what is said of the whole.
 --     Facts            the invariant.        Said      what is said at the end: the three fields of `ran`
 --     starts, goes_on, stops, ended      it holds at the start; an accepted record keeps it; a refused one, and the end of the list, give the answers
---     accepts, refuses     the same of a step's answer.        some_number     that of a refusal is not 0
+--     accepts, refuses     the same of a step's answer
 -- Assumes nothing.
 use mathlib.Core.Path.{◌≡◌, refl, sym, ◌∙◌, ap, subst}
 use Prim.Native.Nat.{ℕ, suc, ◌+◌, ◌<◌, ◌≤◌, zero-le}
 use native.Mathlib.Nat.{zero-add, add-zero, add-suc, suc-add}
 use native.Mathlib.Numerals.{add-one}
 use mathlib.Core.List.{List, [], ◌∷◌}
-use lib.Dec.{T, eqb}
+use lib.Dec.{T}
 use lib.ListN.{length, get_or, drop, drop_of_length-le}
 use lib.Seq.{drop-cons}
 use Rattle.protocol.specs.declared.Event.{Event as Record}
 use native.Mathlib.Omega.{arith}
-use mathlib.Core.Bool.{false≢true}
-use Rattle.protocol.specs.declared.Refusal.{Refusal}
-use Rattle.protocol.specs.Answers.{refusal_number}
-use Rattle.protocol.proofs.Answers.{not_accepted}
 use Rattle.table.specs.Jobs.{Done, table_number, applied, Ran, stopped, run_from, ran}
 use Rattle.table.proofs.Runs.{ran_unsound, ran_from, from_accepted, from_refused}
 use Rattle.table.specs.Table.{sound}
@@ -91,7 +87,3 @@ module _ (ys : List ℕ) (rs : List Record) where
     accepts f accepted long =
         subst (λ l. Facts (i + 1) l) (ap (λ s. s.cells) (sym does))
         (goes_on i ts d less f (ap (λ s. s.number) (sym does) ∙ accepted) (ap (λ s. length s.cells) (sym does) ∙ long))
-
--- no refusal has the number of an event that is accepted
-pub some_number : (refusal : Refusal) → refusal_number refusal ≡ 0 → ⊥
-some_number refusal zero = false≢true (sym (not_accepted refusal) ∙ ap (λ x. eqb x 0) zero)
