@@ -8,7 +8,7 @@ use Prim.Native.Nat.{ℕ, ◌≤◌, ◌<◌}
 use native.Mathlib.Omega.{arith}
 use borrow.Author.Tests.{eq-eqb, ne_eqb}
 use lib.Dec.{T, eqb, eqb→eq}
-use lib.ListN.{length}
+use lib.ListN.{length, get_or}
 use Rattle.lists.specs.Tests.{every, inside}
 use Rattle.lists.proofs.Choice.{true_T, false_T, every_all, all_every, inside_high}
 use Rattle.protocol.specs.declared.Counts.{Counts}
@@ -22,6 +22,7 @@ use Rattle.table.specs.Table.{counts_of, view, size_tests, sound, fresh_table, s
 use Rattle.table.specs.Jobs.{Done, set_up_number, set_up, table_number, number_of, writes_at, after, applied}
 use Rattle.table.proofs.Accepts.{table_sound}
 use Rattle.table.proofs.Soundness.{sound_when}
+use Rattle.layout.specs.Ranged.{Ranged}
 use Rattle.layout.proofs.Laws.{tests_ranged}
 use Rattle.rules.specs.Rules.{Held, rule_number, ruled, of_row, row_ruled, Follows}
 use Rattle.rules.proofs.Laws.{at_kind}
@@ -91,6 +92,16 @@ module _ (t : List ℕ) (n : Counts) (is : n ≡ counts_of t) where
           ranged = tests_ranged (counts_of t) (all_every (count_tests (counts_of t)) facts.size.1);
           range = facts.range;
         })
+
+    -- its three facts, each by itself, as a search asks for them
+    pub sound_long : length t ≡ table_length n
+    sound_long = sound_held.long
+
+    pub sound_ranged : Ranged n
+    sound_ranged = sound_held.ranged
+
+    pub sound_range : T (in_range n (view n t))
+    sound_range = sound_held.range
 
     pub goes_on : (e : Event) → answered n t e ≡ applied t e
     unfolding applied number_of answered
@@ -290,6 +301,21 @@ module _ (n : Counts) (t : List ℕ) (e : Event) (fit : every (fields n e) ≡ t
       (λ read. ((at_kind n e 16 (sym read) fit).1.1.1.0, database_up_at 16 (sym read) refl)),
     ),
   )
+
+  -- whether it is up, by the cell that says so
+  module _ (kind : Kind) (read : kind_number kind ≡ e.kind) where
+    pub client_answers : OneOf kind (Issue ∷ Timeout ∷ ResultArrives ∷ ClientCrashes ∷ []) → (cells : List ℕ) → get_or cells 0 0 ≡ view n t (client_up e.client) → eqb (get_or cells 0 0) 1 ≡ parties_up n t e
+    client_answers one cells is = ap (λ x. eqb x 1) is ∙ (client_acts kind one read).1
+
+    pub server_answers : OneOf kind (RequestArrives ∷ Compute ∷ VoteArrives ∷ ReadyArrives ∷ Write ∷ Suspect ∷ Trust ∷ Clean ∷ AckArrives ∷ ServerCrashes ∷ []) → (cells : List ℕ) → get_or cells 0 0 ≡ view n t (server_up e.server) → eqb (get_or cells 0 0) 1 ≡ parties_up n t e
+    server_answers one cells is = ap (λ x. eqb x 1) is ∙ (server_acts kind one read).1
+
+    pub database_answers : OneOf kind (PrepareArrives ∷ DecideArrives ∷ DatabaseCrashes ∷ []) → (cells : List ℕ) → get_or cells 0 0 ≡ view n t (database_up e.database) → eqb (get_or cells 0 0) 1 ≡ parties_up n t e
+    database_answers one cells is = ap (λ x. eqb x 1) is ∙ (database_acts kind one read).1
+
+    -- 12 by itself: an arm for it alone is found proved by this where it asks the database, so one that asks another party is refused for what it asks
+    pub decide_answers : kind ≡ DecideArrives → (cells : List ℕ) → get_or cells 0 0 ≡ view n t (database_up e.database) → eqb (get_or cells 0 0) 1 ≡ parties_up n t e
+    decide_answers is = database_answers (inr (inl is))
 
   pub nobody_acts : 18 ≡ e.kind → true ≡ parties_up n t e
   unfolding parties_up

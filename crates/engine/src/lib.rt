@@ -21,6 +21,7 @@ use protocol::{Answer, Counts, Event, Kind, Refusal};
 
 // Whether the parties that act in the event are up: client in 1, 2, 14, 17; server in 3, 4, 6 to 11, 13, 15; database in 5, 12, 16;
 // none in 18.
+#[tactic(auto, using(crate::proofs::Laws::nobody_acts, crate::proofs::Laws::decide_answers))]
 fn parties_up(table: Table, kind: Kind, event: Event) -> bool
     requires fields_fit { every (fields table.counts event) ≡ true }
     requires kind_read { kind_number kind ≡ event.kind }
@@ -83,6 +84,7 @@ fn follow(table: &mut [u16], counts: Counts, kind: Kind, event: Event) -> Answer
 // ---- 3 to 7: an event on a sound table
 
 // The lowest of the numbers that an event is asked for, in their order, or the rule's writes.
+#[tactic(auto, using(crate::proofs::Laws::unknown_kind, crate::proofs::Laws::wrong_field, crate::proofs::Laws::party_down, crate::proofs::Laws::ruled_so))]
 fn answer(table: &mut [u16], counts: Counts, event: Event) -> Answer
     requires { Held counts table.old }
     ensures { record { number = answer_number result; cells = table.new } ≡ answered counts table.old event }
@@ -100,6 +102,7 @@ fn answer(table: &mut [u16], counts: Counts, event: Event) -> Answer
 
 // What `apply` does with an event on a table that is sound: for the list job and the listing, which know that it is. An accepted event leaves
 // the table sound, so a list of events asks 1 and 2 once. It is not exported.
+#[tactic(auto, using(crate::proofs::Laws::has_header, crate::proofs::Laws::sound_long, crate::proofs::Laws::sound_ranged, crate::proofs::Laws::sound_range, crate::proofs::Laws::goes_on))]
 pub fn apply_sound(table: &mut [u16], event: Event) -> Answer
     requires { T (sound table.old) }
     ensures { record { number = answer_number result; cells = table.new } ≡ applied table.old event }

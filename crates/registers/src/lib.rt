@@ -47,6 +47,7 @@ pub fn value_of(decision: Option<Decision>) -> u16
 }
 
 // Offers a decision, or none, to the register in the two cells: it is taken where none was held, and answers the decision that was.
+#[tactic(auto, using(crate::proofs::Laws::offer_holds, crate::proofs::Laws::offer_takes))]
 pub fn offer(register: &mut [u16], decision: Option<Decision>) -> Result<Option<Decision>, Decision>
     requires { length register.old ≡ 2 }
     ensures { record { answer = result; cells = register.new } ≡ offering register.old decision }
