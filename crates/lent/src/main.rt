@@ -1,7 +1,8 @@
 // Applies stored events to stored tables, data/001, data/002 and so on: each event alone, then all as a list. Prints every number and every cell.
 #![tactic(auto)]
 
-ghost use Rattle.std.specs.Prelude.{◌≤◌, ◌<◌, length, IfSome};
+ghost use Rattle.std.specs.Prelude.{List, ℕ, ◌≤◌, ◌<◌, length, IfSome};
+ghost use Rattle.text.specs.Lent.{Continues};
 
 use layout::HEADER;
 use protocol::Event;
@@ -67,8 +68,11 @@ fn ends_part(table: &[u16], place: usize) -> bool
         || behind == rows
 }
 
-// Every cell, a line for each part of the table.
-fn put_cells(page: &mut Page, table: &[u16]) {
+// Every cell, a line for each part of the table: a text behind what is written, as far as there is room.
+fn put_cells(page: &mut Page, table: &[u16])
+    ensures text_after { (text : List ℕ) × Continues page.old page.new text }
+    ensures within { page.old.end ≤ length page.old.room.now → page.new.end ≤ length page.new.room.now }
+{
     for (place, cell) in table.iter().enumerate() {
         let end = if ends_part(table, place) {
             NEWLINE
