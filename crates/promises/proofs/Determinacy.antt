@@ -22,12 +22,18 @@ use Rattle.engine.proofs.set_up.Kinds as set-up-kinds
 use Rattle.engine.proofs.set_up.Reads as set-up
 use Rattle.engine.proofs.apply.Kinds as apply-kinds
 use Rattle.engine.proofs.apply.Reads as apply
+use Rattle.engine.proofs.look_over.Kinds as look-over-kinds
+use Rattle.engine.proofs.look_over.Reads as look-over
+use Rattle.engine.proofs.apply_sound.Kinds as apply-sound-kinds
+use Rattle.engine.proofs.apply_sound.Reads as apply-sound
 use Rattle.engine.proofs.number.Kinds as number-kinds
 use Rattle.engine.proofs.number.Reads as number
 use Rattle.engine.proofs.check.Kinds as check-kinds
 use Rattle.engine.proofs.check.Reads as check
 use Rattle.engine.proofs.step.Kinds as step-kinds
 use Rattle.engine.proofs.step.Reads as step
+use Rattle.engine.proofs.step_sound.Kinds as step-sound-kinds
+use Rattle.engine.proofs.step_sound.Reads as step-sound
 use Rattle.runner.proofs.vrolkant_table_length.Kinds as vrolkant-table-length-kinds
 use Rattle.runner.proofs.vrolkant_table_length.Reads as vrolkant-table-length
 use Rattle.runner.proofs.vrolkant_set_up.Kinds as vrolkant-set-up-kinds
@@ -53,6 +59,14 @@ one_set_up κs arguments x y s q = one_done _ x y s.0.now q.0.now
 pub one_apply : OneOutcome apply-kinds.ps apply-kinds.r apply.Learnt (λ κs s. s.0.now)
 one_apply κs arguments x y s q = one_done _ x y s.0.now q.0.now
 
+-- ---- what the list job and the listing go through: equal numbers are equal answers
+
+pub one_look_over : OneResult look-over-kinds.ps look-over-kinds.r look-over.Learnt
+one_look_over κs arguments x y s q first second = one_answer x y (first ∙ sym second)
+
+pub one_apply_sound : OneOutcome apply-sound-kinds.ps apply-sound-kinds.r apply-sound.Learnt (λ κs s. s.0.now)
+one_apply_sound κs arguments x y s q = one_done _ x y s.0.now q.0.now
+
 -- ---- the same with numbers for answers, and as C and Rust call them
 
 pub one_number : OneResult number-kinds.ps number-kinds.r number.Learnt
@@ -63,6 +77,9 @@ one_check κs arguments x y s q first second = first ∙ sym second
 
 pub one_step : OneOutcome step-kinds.ps step-kinds.r step.Learnt (λ κs s. s.0.now)
 one_step κs arguments x y s q first second = (first.0 ∙ sym second.0, first.1 ∙ sym second.1)
+
+pub one_step_sound : OneOutcome step-sound-kinds.ps step-sound-kinds.r step-sound.Learnt (λ κs s. s.0.now)
+one_step_sound κs arguments x y s q first second = (first.0 ∙ sym second.0, first.1 ∙ sym second.1)
 
 pub one_vrolkant_table_length : OneResult vrolkant-table-length-kinds.ps vrolkant-table-length-kinds.r vrolkant-table-length.Learnt
 one_vrolkant_table_length κs arguments x y s q first second = first ∙ sym second
