@@ -1,4 +1,4 @@
--- What the range check leans on: what `all` answers over ids and over rows, and masks seen together.
+-- What the range check leans on: what `all` answers over ids and over rows, the tests of a row in groups, and masks seen together.
 use mathlib.Core.Path.{◌≡◌, refl, sym, ap, ap₂, ◌∙◌}
 use mathlib.Core.Bool.{Bool, true, false, ◌&&◌, and_assoc, and-true}
 use mathlib.Core.List.{List, [], ◌∷◌, map}
@@ -6,7 +6,7 @@ use Prim.Native.Nat.{ℕ, zero, suc, ◌≤◌, ◌*◌, ◌/◌, ◌+◌, ◌-�
 use native.Mathlib.Omega.{arith}
 use native.Mathlib.Nat.{le_of_mul-le-mul_right, mul-div_cancel}
 use lib.Bits.{bit_or, or_lt, or_add_and, and_le_l, and_le_r}
-use lib.Dec.{leb, leb→le, le→leb}
+use lib.Dec.{T, leb, leb→le, le→leb}
 use lib.Pow.{le_ones, lt_of_le_ones}
 use lib.ListN.{length, get_or, take, drop, length-drop}
 use lib.Seq.{get_or-drop, take-length}
@@ -25,15 +25,15 @@ use Rattle.std.proofs.lemmas.List.{drop-drop, take_rest}
 use Rattle.std.proofs.iter.runs.Sources.{nat_range_inclusive_steps, inclusive_listed}
 use Rattle.lists.specs.Parts.{part}
 use Rattle.lists.specs.Tests.{every, each, inside}
-use Rattle.lists.proofs.Choice.{in_each, true_T, and_left, and_right, both, T_true, same_answer, each_same, each_fails, each_more, each_grid, in_inside}
-use Rattle.protocol.specs.Cells.{row_of, acked, known}
+use Rattle.lists.proofs.Choice.{in_each, true_T, and_left, and_right, both, T_true, same_answer, every_all, all_every, each_same, each_fails, each_more, each_grid, in_inside}
+use Rattle.protocol.specs.Cells.{Row, row_of, acked, known}
 use Rattle.protocol.specs.Numbers.{row_tests}
 use Rattle.protocol.specs.declared.Counts.{Counts}
 use Rattle.masks.specs.Mask.{all}
 use Rattle.table.specs.Layout.{row_length, rows_start, rows_before, row_start, table_length}
 use Rattle.table.specs.Table.{view, row_view}
 use Rattle.table.proofs.Lent.{row_view_lem}
-use Rattle.ranges.specs.Groups.{database_mask_tests}
+use Rattle.ranges.specs.Groups.{number_tests, server_mask_tests, database_mask_tests}
 
 -- ---- what `all` answers, where the closure computes a test and the places are known
 
@@ -90,12 +90,11 @@ all_ids {s = s} f n test r runs low high fresh computes = all_each f n test test
           (λ k x is. let placed = rw is at (up.2 k) in let e : x ≡ suc k = omega (arith, placed.0, first) in ap test e),
         )
 
--- over the rows, one behind the other
-module _ (n : Counts) (t : List ℕ) (long : length t ≡ table_length n) where
-  -- the tests of a row by its number, counted from 1
-  abbrev row_test : ℕ → Bool
-  row_test i = every (row_tests n (row_view n (part (rows_start n + (i - 1) * row_length n) (row_length n) t)))
+-- over the rows, one behind the other: the tests of a row by its number, counted from 1
+abbrev pub row_test : Counts → List ℕ → ℕ → Bool
+row_test n t i = every (row_tests n (row_view n (part (rows_start n + (i - 1) * row_length n) (row_length n) t)))
 
+module _ (n : Counts) (t : List ℕ) (long : length t ≡ table_length n) where
   pub rows_inside : rows_start n ≤ length t
   unfolding table_length
   rows_inside = omega (arith, long)
@@ -106,7 +105,7 @@ module _ (n : Counts) (t : List ℕ) (long : length t ≡ table_length n) where
 
   tested : (p : Run chunks_exact_steps) → chunks_exact_size p.from ≡ row_length n → chunks_exact_rest p.from ≡ drop (rows_start n) t
       → (0 < chunks_exact_size p.from → IsChunksExactRun p (chunks_exact_size p.from) (chunks_exact_rest p.from))
-      → Tests p (n.clients * n.attempts) (λ x. every (row_tests n (row_view n x.now))) row_test
+      → Tests p (n.clients * n.attempts) (λ x. every (row_tests n (row_view n x.now))) (row_test n t)
   tested p width cells runs =
       let used : 0 < chunks_exact_size p.from = omega (arith, width) in
       let some : 0 < row_length n = omega arith in
@@ -121,17 +120,17 @@ module _ (n : Counts) (t : List ℕ) (long : length t ≡ table_length n) where
       )
 
   -- the rows by number are those of the clients' attempts
-  rows_are : each (n.clients * n.attempts) row_test ≡ each n.clients (λ c. each n.attempts (λ k. every (row_tests n (row_of (view n t) c k))))
+  pub rows_are : each (n.clients * n.attempts) (row_test n t) ≡ each n.clients (λ c. each n.attempts (λ k. every (row_tests n (row_of (view n t) c k))))
   unfolding row_start rows_before
   rows_are =
-      each_grid row_test n.attempts n.clients
-      ∙ each_same n.clients (λ c. each n.attempts (λ k. row_test ((c - 1) * n.attempts + k))) (λ c. each n.attempts (λ k. every (row_tests n (row_of (view n t) c k))))
-      (λ c c_low c_high. each_same n.attempts (λ k. row_test ((c - 1) * n.attempts + k)) (λ k. every (row_tests n (row_of (view n t) c k))) (λ k k_low k_high. row_is c k c_low c_high k_low k_high))
+      each_grid (row_test n t) n.attempts n.clients
+      ∙ each_same n.clients (λ c. each n.attempts (λ k. row_test n t ((c - 1) * n.attempts + k))) (λ c. each n.attempts (λ k. every (row_tests n (row_of (view n t) c k))))
+      (λ c c_low c_high. each_same n.attempts (λ k. row_test n t ((c - 1) * n.attempts + k)) (λ k. every (row_tests n (row_of (view n t) c k))) (λ k k_low k_high. row_is c k c_low c_high k_low k_high))
     where
       less_one : (a k : ℕ) → 1 ≤ k → a + k - 1 ≡ a + (k - 1)
       less_one a k h = omega arith
 
-      row_is : (c k : ℕ) → 1 ≤ c → c ≤ n.clients → 1 ≤ k → k ≤ n.attempts → row_test ((c - 1) * n.attempts + k) ≡ every (row_tests n (row_of (view n t) c k))
+      row_is : (c k : ℕ) → 1 ≤ c → c ≤ n.clients → 1 ≤ k → k ≤ n.attempts → row_test n t ((c - 1) * n.attempts + k) ≡ every (row_tests n (row_of (view n t) c k))
       row_is c k c_low c_high k_low k_high =
           ap (λ (m : ℕ). every (row_tests n (row_view n (part (rows_start n + m * row_length n) (row_length n) t)))) (less_one ((c - 1) * n.attempts) k k_low)
           ∙ ap (λ r. every (row_tests n r)) (sym (row_view_lem n t c k long (in_inside n.clients c c_low c_high) (in_inside n.attempts k k_low k_high)))
@@ -144,9 +143,37 @@ module _ (n : Counts) (t : List ℕ) (long : length t ≡ table_length n) where
       → r ≡ each n.clients (λ c. each n.attempts (λ k. every (row_tests n (row_of (view n t) c k))))
   all_rows {s = s} f r start runs chunks here cells width computes =
       let rows : chunks_exact_rest s ≡ drop (rows_start n) t = cells ∙ take_rest t start ∙ ap (λ a. drop a t) here in
-      all_each f (n.clients * n.attempts) (λ x. every (row_tests n (row_view n x.now))) row_test r runs computes
+      all_each f (n.clients * n.attempts) (λ x. every (row_tests n (row_view n x.now))) (row_test n t) r runs computes
       (λ p from. tested p (ap chunks_exact_size from ∙ width) (ap chunks_exact_rest from ∙ rows) (chunks p p.seen))
       ∙ rows_are
+
+-- ---- the tests of a row, in three groups
+
+pub row_grouped : (n : Counts) (r : Row)
+    → every (row_tests n r) ≡ every (every (number_tests n r) ∷ every (server_mask_tests n r) ∷ every (database_mask_tests n r) ∷ [])
+row_grouped n r = same_answer (every (row_tests n r)) (every groups) apart together
+  where
+    groups : List Bool
+    groups = every (number_tests n r) ∷ every (server_mask_tests n r) ∷ every (database_mask_tests n r) ∷ []
+
+    apart : T (every (row_tests n r)) → T (every groups)
+    apart t =
+        let (owner, (outcome, (sent, (voted, (votedYes, (heard, (heardYes, (written, (terminating, (decided, (committed, (sentAcks, (knownAcks, end))))))))))))) = every_all (row_tests n r) t in
+        all_every groups (
+          all_every (number_tests n r) (owner, (outcome, (written, tt))),
+          (
+            all_every (server_mask_tests n r) (sent, (terminating, tt)),
+            (all_every (database_mask_tests n r) (voted, (votedYes, (heard, (heardYes, (decided, (committed, (sentAcks, (knownAcks, tt)))))))), tt),
+          ),
+        )
+
+    together : T (every groups) → T (every (row_tests n r))
+    together t =
+        let (numbers, (servers, (databases, end))) = every_all groups t in
+        let (owner, (outcome, (written, end))) = every_all (number_tests n r) numbers in
+        let (sent, (terminating, end)) = every_all (server_mask_tests n r) servers in
+        let (voted, (votedYes, (heard, (heardYes, (decided, (committed, (sentAcks, (knownAcks, end)))))))) = every_all (database_mask_tests n r) databases in
+        all_every (row_tests n r) (owner, (outcome, (sent, (voted, (votedYes, (heard, (heardYes, (written, (terminating, (decided, (committed, (sentAcks, (knownAcks, tt)))))))))))))
 
 -- ---- masks, by what stands in any of them
 
@@ -179,10 +206,10 @@ every_each p (x ∷ l) =
     ap (λ b. p x && b) (every_each p l ∙ each_same (length l) (λ i. p (get_or l (i - 1) 0)) (λ i. p (get_or (x ∷ l) (1 + i - 1) 0)) (λ i low high. let f : 1 + i - 1 ≡ suc (i - 1) = omega arith in rw f))
     ∙ sym (ap (λ m. each m (λ i. p (get_or (x ∷ l) (i - 1) 0))) e ∙ each_more (λ i. p (get_or (x ∷ l) (i - 1) 0)) 1 (length l))
 
-module _ (n : Counts) (l : List ℕ) (long : length l ≡ row_length n) where
-  abbrev fits : ℕ → Bool
-  fits i = leb (get_or l i 0) (all n.databases)
+abbrev pub fits : Counts → List ℕ → ℕ → Bool
+fits n l i = leb (get_or l i 0) (all n.databases)
 
+module _ (n : Counts) (l : List ℕ) (long : length l ≡ row_length n) where
   abbrev acked_fit : Bool
   acked_fit = each n.servers (λ i. leb (row_view n l (acked i)) (all n.databases))
 

@@ -125,6 +125,11 @@ ack_given n l i d at marked x e f = ap (λ b. cond b 0 6) (f ∙ ap (λ y. has y
     alone true = refl
     alone false = refl
 
+-- a message that is not sent for its second reason
+pub never : (b : Bool) → ◌≡◌ {A = ℕ} (cond (b && (false && true)) 0 6) 6
+never true = refl
+never false = refl
+
 -- what rule 14 asks of the row: the code reads the outcome by the register, and the acknowledgements known at their place
 pub known_given : (n : Counts) (l : List ℕ) (i at : ℕ) (decision all_known : Bool) → T (inside n.servers i) → at ≡ slot n (known i)
     → decision ≡ is_some (held (row_view n l outcome) (row_view n l value)) → all_known ≡ has_all n.databases (get_or l at 0)

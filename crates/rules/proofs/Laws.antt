@@ -11,7 +11,7 @@ use lib.ListN.{length, get_or, set, length-set}
 use Rattle.lists.specs.Tests.{every, All, inside}
 use Rattle.lists.specs.Parts.{part, put_back}
 use Rattle.lists.proofs.Parts.{put_back_part}
-use Rattle.lists.proofs.Choice.{by_cond, by_both, by_eq, inside_low, inside_high, every_all, true_T}
+use Rattle.lists.proofs.Choice.{by_cond, by_both, by_eq, inside_low, inside_high, in_inside, every_all, true_T}
 use Rattle.masks.specs.Mask.{has_all}
 use Rattle.registers.specs.Register.{held}
 use Rattle.registers.specs.declared.Decision.{Decision}
@@ -23,7 +23,7 @@ use Rattle.protocol.proofs.Answers.{not_accepted, passed_on}
 use Rattle.protocol.specs.declared.Counts.{Counts}
 use Rattle.protocol.specs.Answers.{refusal_number, answer_number}
 use Rattle.protocol.specs.declared.Event.{Event}
-use Rattle.protocol.specs.Cells.{Field, Name, row, owner, outcome, value, known, exists, server_up, database_up, client_up, phase, attempt, request, delivered}
+use Rattle.protocol.specs.Cells.{Field, Name, row, owner, outcome, value, known, exists, server_up, suspects, database_up, ready, client_up, phase, attempt, request, delivered}
 use Rattle.protocol.specs.Cells.{Row, row_of, store_all, Writes, RowWrites, in_row}
 use Rattle.protocol.specs.Events.{kind_of}
 use Rattle.protocol.specs.Numbers.{fields, field_tests, in_range}
@@ -231,6 +231,19 @@ pub no_row : (k : ℕ) → (k ≡ 3 → ⊥) → (k ≡ 4 → ⊥) → (k ≡ 5 
     → of_row k ≡ true → ⊥
 no_row k a b c d e f g h i z = false≢true
     (rw (ne_eqb k 3 a, ne_eqb k 4 b, ne_eqb k 5 c, ne_eqb k 6 d, ne_eqb k 7 e, ne_eqb k 8 f, ne_eqb k 11 g, ne_eqb k 12 h, ne_eqb k 13 i) at z)
+
+-- what is asked of no party, number 0, is 0
+pub ready_nobody : (n : Counts) (t : List ℕ) (d : ℕ) → d ≡ 0 → view n t (ready d) ≡ 0
+unfolding view
+ready_nobody n t d e = rw e refl
+
+pub suspects_nobody : (n : Counts) (t : List ℕ) (i : ℕ) → i ≡ 0 → view n t (suspects i) ≡ 0
+unfolding view
+suspects_nobody n t i e = rw e refl
+
+-- of a party or an attempt that is not the last there is a next
+pub next_in : (m k : ℕ) → T (inside m k) → (k ≡ m → ⊥) → T (inside m (k + 1))
+next_in m k x ne = in_inside m (k + 1) (omega arith) (omega (arith, inside_high m k x, ne))
 
 -- the database whose ready arrives, and the server that cleans, are named
 pub ready_names : (n : Counts) (e : Event) → Follows n e → e.kind ≡ 7 → T (inside n.databases e.database)
