@@ -1,7 +1,6 @@
 -- `ranges::rows_fit` meets its contract.
 use Rattle.std.proofs.Common.{rules}
 use borrow.Author.Tests.{tests}
-use mathlib.Core.Path.{◌∙◌}
 use Rattle.ranges.proofs.Laws.{all_rows, rows_inside}
 use Rattle.ranges.proofs.rows_fit.Goals as goal
 
